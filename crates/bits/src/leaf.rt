@@ -1,0 +1,134 @@
+// A leaf of the tree: up to 128 marks in two words, the first mark the lowest bit of `low`, and zeros past the last mark.
+// Each edit hands the new leaf back. Every method takes any leaf and any numbers: a place past bit 127 is where nothing is done.
+pub struct Leaf {
+    pub low: u64,
+    pub high: u64,
+}
+
+pub struct Halves {
+    pub left: Leaf,
+    pub right: Leaf,
+}
+
+impl Leaf {
+    // The leaf with a mark put in at a place. The marks from there on move up by one; a bit 127 is lost.
+    pub fn insert(self, at: u64, bit: bool) -> Leaf {
+        if at < 64 {
+            let over = 1 << 63 <= self.low;
+            return Leaf {
+                low: word_insert(self.low, at, bit),
+                high: word_insert(self.high, 0, over),
+            };
+        }
+        if at < 128 {
+            return Leaf {
+                low: self.low,
+                high: word_insert(self.high, at - 64, bit),
+            };
+        }
+        self
+    }
+
+    // The leaf without the mark at a place. The marks after it move down by one, and a zero comes in at the end.
+    pub fn remove(self, at: u64) -> Leaf {
+        if at < 64 {
+            let next = self.high % 2 == 1;
+            return Leaf {
+                low: word_remove(self.low, at, next),
+                high: word_remove(self.high, 0, false),
+            };
+        }
+        if at < 128 {
+            return Leaf {
+                low: self.low,
+                high: word_remove(self.high, at - 64, false),
+            };
+        }
+        self
+    }
+
+    // The first len marks of this leaf, and then those of the other, as far as 128 bits reach.
+    pub fn join(self, len: u64, other: Leaf) -> Leaf {
+        if len < 64 {
+            let over = (other.low >> (63 - len)) >> 1;
+            return Leaf {
+                low: word_join(self.low, len, other.low),
+                high: word_join(over, len, other.high),
+            };
+        }
+        if len < 128 {
+            return Leaf {
+                low: self.low,
+                high: word_join(self.high, len - 64, other.low),
+            };
+        }
+        self
+    }
+
+    // The first 64 bits and the last 64, each as a leaf.
+    pub fn split(self) -> Halves {
+        let left = Leaf {
+            low: self.low,
+            high: 0,
+        };
+        let right = Leaf {
+            low: self.high,
+            high: 0,
+        };
+        Halves { left, right }
+    }
+
+    // How many of the bits before a place are strikes, or quiet ones.
+    pub fn count_before(self, end: u64, bit: bool) -> u64 {
+        let before = if end < 128 { end } else { 128 };
+        let ones = ones_before(self, before);
+        if bit { ones } else { before - ones }
+    }
+
+    // The bit at a place; a zero past the end.
+    pub fn bit_at(self, at: u64) -> bool {
+        if at < 64 {
+            return (self.low >> at) % 2 == 1;
+        }
+        if at < 128 {
+            return (self.high >> (at - 64)) % 2 == 1;
+        }
+        false
+    }
+}
+
+// The lowest n bits of a word.
+fn word_below(word: u64, n: u64) -> u64 {
+    word & ((1 << n) - 1)
+}
+
+// The word with a bit put in at a place; the bits from there on move up by one, and the highest is lost.
+fn word_insert(word: u64, at: u64, bit: bool) -> u64 {
+    let above = ((word >> at) << at) << 1;
+    let put = (bit as u64) << at;
+    above | (put | word_below(word, at))
+}
+
+// The word without the bit at a place; the bits after it move down by one, and `next` comes in as the highest.
+fn word_remove(word: u64, at: u64, next: bool) -> u64 {
+    let above = ((word >> at) >> 1) << at;
+    let put = (next as u64) << 63;
+    put | (above | word_below(word, at))
+}
+
+// The first len bits of a word, and then those of the other.
+fn word_join(word: u64, len: u64, other: u64) -> u64 {
+    (other << len) | word_below(word, len)
+}
+
+// How many of the bits before a place are set.
+fn ones_before(leaf: Leaf, end: u64) -> u64 {
+    if end < 64 {
+        return u64::count_ones(word_below(leaf.low, end)) as u64;
+    }
+    let low = u64::count_ones(leaf.low) as u64;
+    if end < 128 {
+        return low + u64::count_ones(word_below(leaf.high, end - 64)) as u64;
+    }
+    low + u64::count_ones(leaf.high) as u64
+}
