@@ -1,6 +1,6 @@
 -- A window's marks are a plain list of bits, the oldest first: `true` is a strike (the trigger fired), `false` a quiet frame.
 -- Here is what the storm analysts' orders mean on that list. It knows no tree, no word and no pool.
-use Prim.Native.Nat.{ℕ, zero, suc, max}
+use Prim.Native.Nat.{ℕ, zero, suc, _+_, max}
 use mathlib.Core.Bool.{Bool, true, false, not}
 use mathlib.Core.List.{List, [], _∷_, _++_, map}
 use mathlib.Core.Option.{Option, none, some}
@@ -29,18 +29,18 @@ ones [] = zero
 ones (true ∷ xs) = suc (ones xs)
 ones (false ∷ xs) = ones xs
 
--- a place found further on in the list
-unfoldable pub further : Option ℕ → Option ℕ
-further none = none
-further (some p) = some (suc p)
+-- a place, counted from n places further back
+unfoldable pub further : ℕ → Option ℕ → Option ℕ
+further n none = none
+further n (some p) = some (n + p)
 
 -- the place of the k-th set bit, k counted from 1; none for k = 0 and for k above their number
 unfoldable pub place : ℕ → List Bool → Option ℕ
 place zero xs = none
 place (suc k) [] = none
 place (suc zero) (true ∷ xs) = some zero
-place (suc (suc k)) (true ∷ xs) = further (place (suc k) xs)
-place (suc k) (false ∷ xs) = further (place (suc k) xs)
+place (suc (suc k)) (true ∷ xs) = further 1 (place (suc k) xs)
+place (suc k) (false ∷ xs) = further 1 (place (suc k) xs)
 
 -- how many marks are b
 unfoldable pub count : Bool → List Bool → ℕ
