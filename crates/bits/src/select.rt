@@ -1,4 +1,14 @@
-// The place of the k-th bit of a word, k from 1, at 32, 64 and 128 bits.
+// The place of the k-th bit of a word, k from 1, at 32, 64 and 128 bits. The masked sums tell how many bits are set in each byte, half byte
+// and pair; a loop finds the byte, and three steps find the bit in it.
+use crate::count::ones32;
+use crate::count::ones64;
+ghost use mathlib.Core.List.{_++_};
+ghost use mathlib.Core.Option.{some};
+ghost use mathlib.Core.Path.{_≡_};
+ghost use Prim.Native.Nat.{ℕ, _+_, _/_, _^_, _≤_};
+ghost use Rattle.model.specs.Marks.{ones, place, select};
+ghost use Rattle.model.specs.Word.{bits};
+ghost use Rattle.bits.specs.Select.{InField, chosen, placed, sums-of};
 
 // Where a wanted bit stands, or that there is none.
 pub enum Place {
@@ -6,84 +16,112 @@ pub enum Place {
     Nothing,
 }
 
-// The byte of a word that holds the bit looked for: its position, and how many of its set bits that bit is.
-struct Reached {
-    pos: u64,
-    left: u64,
-}
-
-// The masked sums: in each pair of bits, each half byte and each byte of the word, how many bits of it are set.
+// The masked sums: in each pair of bits, each half byte and each byte of a word, how many of its bits are set.
 struct Sums {
     pairs: u64,
     halves: u64,
     bytes: u64,
 }
 
-fn masked_sums(value: u64) -> Sums {
+// How far a search has come: the bit looked for is the left-th set one from pos on.
+struct Reached {
+    pos: u64,
+    left: u64,
+}
+
+// The word in which the bits looked for are set.
+fn chosen64(word: u64, bit: bool) -> u64
+    ensures { λ r. ⌜ r ≡ chosen 64 bit word ⌝ }
+{
+    if bit { word } else { !word }
+}
+
+fn chosen32(word: u32, bit: bool) -> u32
+    ensures { λ r. ⌜ r ≡ chosen 32 bit word ⌝ }
+{
+    if bit { word } else { !word }
+}
+
+fn masked_sums(value: u64) -> Sums
+    ensures { λ r. ⌜ r ≡ sums-of value ⌝ }
+{
     let pairs = value - ((value & 0xaaaa_aaaa_aaaa_aaaa) >> 1);
     let halves = (pairs & 0x3333_3333_3333_3333) + ((pairs >> 2) & 0x3333_3333_3333_3333);
     let bytes = (halves + (halves >> 4)) & 0x0f0f_0f0f_0f0f_0f0f;
-    Sums {
-        pairs,
-        halves,
-        bytes,
+    Sums { pairs, halves, bytes }
+}
+
+impl Reached {
+    // From a field to the half of it that holds the bit, where `here` bits of its lower half are set.
+    fn halved(self, here: u64, width: u64) -> Reached
+        requires { ⌜ self .pos + width ≤ 64 ⌝ }
+        ensures { λ r. ⌜ ((w k : ℕ) → here ≡ ones (bits width (w / 2 ^ self .pos)) → InField w k (width + width) self → InField w k width r) ⌝ }
+    {
+        if here < self.left {
+            return Reached {
+                pos: self.pos + width,
+                left: self.left - here,
+            };
+        }
+        self
     }
 }
 
-fn byte_with(bytes: u64, k: u64) -> Reached {
+// The place of the k-th set bit, where there are as many.
+fn place_of_set(value: u64, k: u64) -> u64
+    requires { ⌜ (1 ≤ k) × (k ≤ ones (bits 64 value)) ⌝ }
+    ensures { λ r. ⌜ place k (bits 64 value) ≡ some r ⌝ }
+{
+    let sums = masked_sums(value);
     let mut pos: u64 = 0;
     let mut left = k;
-    loop {
-        let here = (bytes >> pos) & 0xff;
+    let byte = loop {
+        let here = (sums.bytes >> pos) & 0xff;
         if left <= here {
             break Reached { pos, left };
         }
         left -= here;
         pos += 8;
-    }
+    };
+    let half = byte.halved((sums.halves >> byte.pos) & 0x0f, 4);
+    let pair = half.halved((sums.pairs >> half.pos) & 0x03, 2);
+    let last = pair.halved((value >> pair.pos) & 0x01, 1);
+    last.pos
 }
 
-fn select_set(value: u64, k: u64) -> u64 {
-    let s = masked_sums(value);
-    let reached = byte_with(s.bytes, k);
-    let mut pos = reached.pos;
-    let mut left = reached.left;
-    let in_half = (s.halves >> pos) & 0x0f;
-    if in_half < left {
-        left -= in_half;
-        pos += 4;
-    }
-    let in_pair = (s.pairs >> pos) & 0x03;
-    if in_pair < left {
-        left -= in_pair;
-        pos += 2;
-    }
-    let lowest = (value >> pos) & 1;
-    if lowest < left {
-        pos += 1;
-    }
-    pos
-}
-
-pub fn select64(word: u64, bit: bool, k: u64) -> Place {
-    let value = if bit { word } else { !word };
-    if k == 0 || (u64::count_ones(value) as u64) < k {
+// The place of the k-th one, or zero, of a word of 64 bits.
+pub fn select64(word: u64, bit: bool, k: u64) -> Place
+    ensures { λ r. ⌜ r ≡ placed (select bit k (bits 64 word)) ⌝ }
+{
+    let value = chosen64(word, bit);
+    if k == 0 {
         return Place::Nothing;
     }
-    Place::At(select_set(value, k))
-}
-
-pub fn select32(word: u32, bit: bool, k: u64) -> Place {
-    let value = if bit { word } else { !word };
-    if k == 0 || (u32::count_ones(value) as u64) < k {
+    if ones64(value) < k {
         return Place::Nothing;
     }
-    Place::At(select_set(value as u64, k))
+    Place::At(place_of_set(value, k))
 }
 
-pub fn select128(low: u64, high: u64, bit: bool, k: u64) -> Place {
-    let value = if bit { low } else { !low };
-    let in_low = u64::count_ones(value) as u64;
+// The same of a word of 32 bits.
+pub fn select32(word: u32, bit: bool, k: u64) -> Place
+    ensures { λ r. ⌜ r ≡ placed (select bit k (bits 32 word)) ⌝ }
+{
+    let value = chosen32(word, bit);
+    if k == 0 {
+        return Place::Nothing;
+    }
+    if ones32(value) < k {
+        return Place::Nothing;
+    }
+    Place::At(place_of_set(value as u64, k))
+}
+
+// The same of 128 bits in two words.
+pub fn select128(low: u64, high: u64, bit: bool, k: u64) -> Place
+    ensures { λ r. ⌜ r ≡ placed (select bit k (bits 64 low ++ bits 64 high)) ⌝ }
+{
+    let in_low = ones64(chosen64(low, bit));
     if k <= in_low {
         return select64(low, bit, k);
     }

@@ -113,7 +113,7 @@ bits-number (b ∷ xs) = ap₂ {C = List Bool} (λ x r. x ∷ r) (odd-digit (num
 -- ---- counts
 
 -- the lowest bit counts where it is set
-ones-cons : (b : Bool) (xs : List Bool) → ones (b ∷ xs) ≡ digit b + ones xs
+pub ones-cons : (b : Bool) (xs : List Bool) → ones (b ∷ xs) ≡ digit b + ones xs
 unfolding ones digit
 ones-cons true xs = omega arith
 ones-cons false xs = omega arith
