@@ -17,7 +17,7 @@ use Rattle.model.proofs.Words.{bits-add, bits-length, digit-odd, ones-cons}
 use Rattle.bits.specs.Select.{Search, InField}
 use Rattle.bits.specs.Fields.{field-counts}
 use Rattle.bits.specs.declared.select.Reached.{Reached}
-use Rattle.bits.proofs.Fields.{field-of-counts, ones-bits-add}
+use Rattle.bits.proofs.Fields.{field-of-counts, ones-bits-le, ones-bits-add}
 
 -- the search begins at the whole word
 pub begin : (w k : ℕ) → 1 ≤ k → k ≤ ones (bits 64 w) → Search w k 64 (record { pos = 0; left = k })
@@ -83,3 +83,25 @@ held n m w pos j e h = and-mask (field-counts n m w / 2 ^ pos) n ∙ rw e (field
 pub held-bit : (x : ℕ) → bitAnd x 1 ≡ ones (bits 1 x)
 unfolding bits ones
 held-bit x = and-mask x 1 ∙ sym (digit-odd x) ∙ sym (ones-cons (odd x) [] ∙ add-zero (digit (odd x)))
+
+-- ---- bytes
+
+-- the search has come to a byte, and the bit is in it or in one after it
+pub record InBytes (w k : ℕ) (r : Reached) : Type 0 where
+  pub begins : (j : ℕ) × (r .pos ≡ 8 * j)
+  pub room : r .pos + 8 ≤ 64
+  pub search : Search w k (8 + (56 - r .pos)) r
+
+pub bytes-begin : (w k : ℕ) → 1 ≤ k → k ≤ ones (bits 64 w) → InBytes w k (record { pos = 0; left = k })
+bytes-begin w k h l = record { begins = (0, refl); room = omega arith; search = begin w k h l }
+
+module _ {w k here : ℕ} {r : Reached} (b : InBytes w k r) (e : here ≡ ones (bits 8 (w / 2 ^ r .pos))) where
+  pub byte-reached : r .left ≤ here → InField w k 8 r
+  byte-reached h = record { begins = b .begins; search = stay 8 (56 - r .pos) (b .search) (rw e at h) }
+
+  pub byte-passed : here < r .left → InBytes w k (record { pos = r .pos + 8; left = r .left - here })
+  byte-passed h =
+      let s : Search w k (56 - r .pos) (record { pos = r .pos + 8; left = r .left - here }) = rw e (pass 8 (56 - r .pos) (b .search) (rw e at h)) in
+      let some-left : r .pos < 56 = omega (arith, s .one, s .enough, ones-bits-le (56 - r .pos) (w / 2 ^ (r .pos + 8))) in
+      let same : 56 - r .pos ≡ 8 + (56 - (r .pos + 8)) = omega (arith, b .begins .1) in
+      record { begins = (b .begins .0 + 1, omega (arith, b .begins .1)); room = omega (arith, b .begins .1); search = rw same at s }
