@@ -40,7 +40,7 @@ and-low : (d j n mask : ℕ) → bitAnd n (mask * 2 ^ (d + j) + (2 ^ j - 1)) ≡
 and-low d j n mask =
     ap (λ (x : ℕ). bitAnd x (mask * 2 ^ (d + j) + (2 ^ j - 1))) (sym (split n (d + j)))
     ∙ and-block (d + j) (n / 2 ^ (d + j)) mask (n % 2 ^ (d + j)) (2 ^ j - 1) (mod-lt n (pow-pos (d + j)))
-      (lt-of-lt-of-le (ones-lt j) (pow-mono (omega arith)))
+    (lt-of-lt-of-le (ones-lt j) (pow-mono (omega arith)))
     ∙ ap (λ (x : ℕ). bitAnd (n / 2 ^ (d + j)) mask * 2 ^ (d + j) + x) (and-mask (n % 2 ^ (d + j)) j ∙ mod-mod-pow n d j)
 
 -- ---- pairs: what the high bits of the pairs stand for is taken off once
@@ -60,7 +60,7 @@ pairs-counted (suc m) w h =
     let high : 2 * field-counts 2 m (w / 4) + bitAnd (w / 4) (repeated 2 2 m) ≡ 2 * (w / 4) = pairs-counted m (w / 4) (omega arith) in
     let low : 2 * ones (bits 2 w) + bitAnd (w % 4) 2 ≡ 2 * (w % 4) = rw (bits-mod 2 w) at (pair-of (w % 4) (omega arith)) in
     let cut : bitAnd w (repeated 2 2 m * 4 + 2) ≡ bitAnd (w / 4) (repeated 2 2 m) * 4 + bitAnd (w % 4) 2 =
-      ap (λ (x : ℕ). bitAnd x (repeated 2 2 m * 4 + 2)) (sym (split w 2)) ∙ and-block 2 (w / 4) (repeated 2 2 m) (w % 4) 2 (omega arith) (omega arith) in
+    ap (λ (x : ℕ). bitAnd x (repeated 2 2 m * 4 + 2)) (sym (split w 2)) ∙ and-block 2 (w / 4) (repeated 2 2 m) (w % 4) 2 (omega arith) (omega arith) in
     omega arith
 
 -- ---- half bytes: the two pairs of each, masked and added
@@ -82,7 +82,7 @@ halves-counted (suc m) w =
     let second : x / 4 % 4 ≡ ones (bits 2 (w / 4)) = rw quarter (digits-mod a (omega arith)) in
     let even : bitAnd x (mask * 16 + 3) ≡ bitAnd a mask * 16 + x % 4 = and-low 2 2 x mask ∙ ap (λ (n : ℕ). bitAnd n mask * 16 + x % 4) high in
     let uneven : bitAnd (x / 4) (mask * 16 + 3) ≡ bitAnd (a / 4) mask * 16 + x / 4 % 4 =
-      and-low 2 2 (x / 4) mask ∙ ap (λ (n : ℕ). bitAnd n mask * 16 + x / 4 % 4) next in
+    and-low 2 2 (x / 4) mask ∙ ap (λ (n : ℕ). bitAnd n mask * 16 + x / 4 % 4) next in
     let rest : bitAnd a mask + bitAnd (a / 4) mask ≡ field-counts 4 m (w / 16) = halves-counted m (w / 16) in
     let whole : ones (bits 4 w) ≡ ones (bits 2 w) + ones (bits 2 (w / 4)) = ones-bits-add 2 2 w in
     rw (shr-shr w 2 2) (omega arith)
@@ -108,7 +108,7 @@ bytes-counted (suc m) w =
     let sum : x + x / 16 ≡ (a * 17 + ones (bits 4 (w / 16))) * 16 + (ones (bits 4 w) + ones (bits 4 (w / 16))) = omega arith in
     let low : (x + x / 16) % 16 ≡ ones (bits 4 w) + ones (bits 4 (w / 16)) = rw sum (digits-mod _ (omega arith)) in
     let cut : bitAnd (x + x / 16) (mask * 256 + 15) ≡ bitAnd (a + a / 16) mask * 256 + (x + x / 16) % 16 =
-      and-low 4 4 (x + x / 16) mask ∙ ap (λ (n : ℕ). bitAnd n mask * 256 + (x + x / 16) % 16) high in
+    and-low 4 4 (x + x / 16) mask ∙ ap (λ (n : ℕ). bitAnd n mask * 256 + (x + x / 16) % 16) high in
     let rest : bitAnd (a + a / 16) mask ≡ field-counts 8 m (w / 256) = bytes-counted m (w / 256) in
     let whole : ones (bits 8 w) ≡ ones (bits 4 w) + ones (bits 4 (w / 16)) = ones-bits-add 4 4 w in
     rw (shr-shr w 4 4) (omega arith)

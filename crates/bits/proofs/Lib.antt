@@ -1,3 +1,4 @@
 pub mod Fields
 pub mod Ones
 pub mod Search
+pub mod Widths

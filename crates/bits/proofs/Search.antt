@@ -25,7 +25,7 @@ begin w k h l = record {
   inside = omega arith;
   one = h;
   enough = rw div-one l;
-  same = rw div-one (sym (further-zero (place k (bits 64 w))))
+  same = rw div-one (sym (further-zero (place k (bits 64 w))));
 }
 
 module _ {w k : ℕ} (m n : ℕ) {r : Reached} (s : Search w k (m + n) r) where
@@ -35,7 +35,7 @@ module _ {w k : ℕ} (m n : ℕ) {r : Reached} (s : Search w k (m + n) r) where
     inside = omega arith;
     one = s .one;
     enough = h;
-    same = s .same ∙ rw bits-add (ap (further (r .pos)) (place-in-first (r .left) (bits m (w / 2 ^ r .pos)) (bits n (w / 2 ^ r .pos / 2 ^ m)) h))
+    same = s .same ∙ rw bits-add (ap (further (r .pos)) (place-in-first (r .left) (bits m (w / 2 ^ r .pos)) (bits n (w / 2 ^ r .pos / 2 ^ m)) h));
   }
 
   -- they have too few
@@ -46,8 +46,8 @@ module _ {w k : ℕ} (m n : ℕ) {r : Reached} (s : Search w k (m + n) r) where
     one = omega arith;
     enough = rw (← shr-shr w (r .pos) m) (omega (arith, ones-bits-add m n (w / 2 ^ r .pos)));
     same = s .same ∙ rw (bits-add, ← shr-shr w (r .pos) m)
-      (ap (further (r .pos)) (place-in-second (r .left) (bits m (w / 2 ^ r .pos)) (bits n (w / 2 ^ r .pos / 2 ^ m)) h)
-      ∙ further-further (r .pos) (length (bits m (w / 2 ^ r .pos))) _ ∙ rw bits-length)
+        (ap (further (r .pos)) (place-in-second (r .left) (bits m (w / 2 ^ r .pos)) (bits n (w / 2 ^ r .pos / 2 ^ m)) h)
+        ∙ further-further (r .pos) (length (bits m (w / 2 ^ r .pos))) _ ∙ rw bits-length);
   }
 
 only : (b : Bool) (left : ℕ) → 1 ≤ left → left ≤ ones (b ∷ []) → place left (b ∷ []) ≡ some 0
@@ -69,7 +69,7 @@ module _ {w k m here : ℕ} {r : Reached} (f : InField w k (m + m) r) (e : here 
   pub upper : here < r .left → InField w k m (record { pos = r .pos + m; left = r .left - here })
   upper h = record {
     begins = (f .begins .0 + f .begins .0 + 1, omega arith);
-    search = rw e (pass m m (f .search) (rw e at h))
+    search = rw e (pass m m (f .search) (rw e at h));
   }
 
   pub lower : r .left ≤ here → InField w k m r

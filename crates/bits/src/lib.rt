@@ -6,6 +6,6 @@ mod select;
 pub use leaf::Halves;
 pub use leaf::Leaf;
 pub use select::Place;
-pub use select::select128;
 pub use select::select32;
 pub use select::select64;
+pub use select::select128;

@@ -48,7 +48,11 @@ fn masked_sums(value: u64) -> Sums
     let pairs = value - ((value & 0xaaaa_aaaa_aaaa_aaaa) >> 1);
     let halves = (pairs & 0x3333_3333_3333_3333) + ((pairs >> 2) & 0x3333_3333_3333_3333);
     let bytes = (halves + (halves >> 4)) & 0x0f0f_0f0f_0f0f_0f0f;
-    Sums { pairs, halves, bytes }
+    Sums {
+        pairs,
+        halves,
+        bytes,
+    }
 }
 
 impl Reached {

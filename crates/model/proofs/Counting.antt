@@ -58,6 +58,15 @@ place-in-second (suc k) (false ∷ xs) ys h =
     ap (further 1) (place-in-second (suc k) xs ys h) ∙ further-further 1 (length xs) (place (suc k - ones xs) ys)
     ∙ simp one-add
 
+never : {A : Type 0} {p : ℕ} → none ≡ some p → A
+never e = let z : _≡_ {A = ℕ} 0 1 = cc in absurd (omega arith)
+
+-- one place further on in a list that is one longer
+step : {n : ℕ} (o : Option ℕ) → ((q : ℕ) → o ≡ some q → q < n) → (p : ℕ) → further 1 o ≡ some p → p < suc n
+unfolding further
+step none f p e = never e
+step (some q) f p e = let z : 1 + q ≡ p = cc in omega (arith, f q refl)
+
 -- there is no k-th set bit where there are fewer
 pub place-none : (k : ℕ) (xs : List Bool) → ones xs < k → place k xs ≡ none
 unfolding place further
@@ -66,6 +75,15 @@ place-none k xs h = rw (← append-nil xs) (place-in-second k xs [] h ∙ ap (fu
     nowhere : (j : ℕ) → place j [] ≡ none
     nowhere zero = refl
     nowhere (suc j) = refl
+
+-- a place that is found lies in the list
+pub place-below : (k : ℕ) (xs : List Bool) (p : ℕ) → place k xs ≡ some p → p < length xs
+unfolding place further
+place-below zero xs p e = never e
+place-below (suc k) [] p e = never e
+place-below (suc zero) (true ∷ xs) p e = let z : 0 ≡ p = cc in omega arith
+place-below (suc (suc k)) (true ∷ xs) p e = step (place (suc k) xs) (place-below (suc k) xs) p e
+place-below (suc k) (false ∷ xs) p e = step (place (suc k) xs) (place-below (suc k) xs) p e
 
 pub place-zero : (xs : List Bool) → place zero xs ≡ none
 unfolding place
