@@ -10,7 +10,7 @@ use mathlib.Core.List.{List, [], _∷_, _++_, map}
 use lib.Arith.{digits-div, digits-mod, lt-one}
 use lib.Count as Count
 use lib.Dec.{eqb}
-use lib.ListN.{length, take, drop, replicate}
+use lib.ListN.{length, take, drop, getD, replicate}
 use lib.Seq.{drop-at}
 use lib.Pow.{pow-pos, shr-shr, mod-mod-pow, field, mod-pow-add}
 use Rattle.model.specs.Marks.{ones}
@@ -59,6 +59,13 @@ bits-mod (suc n) w =
     let high : w % 2 ^ suc n / 2 ≡ w / 2 % 2 ^ n = rw (← add-one n) (field w n 1) in
     rw (low, high) (ap {B = List Bool} (λ r. eqb (w % 2) 1 ∷ r) (bits-mod n (w / 2)))
 
+-- a high part, and n digits below it
+pub bits-join : (n m high low : ℕ) → low < 2 ^ n → bits (n + m) (high * 2 ^ n + low) ≡ bits n low ++ bits m high
+bits-join n m high low h =
+    bits-add n m (high * 2 ^ n + low)
+    ∙ ap₂ (λ (x y : List Bool). x ++ y)
+    (sym (bits-mod n (high * 2 ^ n + low)) ∙ ap (bits n) (digits-mod high h)) (ap (bits m) (digits-div high h))
+
 pub take-bits : (n m w : ℕ) → n ≤ m → take n (bits m w) ≡ bits n w
 unfolding bits
 take-bits zero m w h = refl
@@ -67,6 +74,13 @@ take-bits (suc n) (suc m) w h = ap {B = List Bool} (λ r. odd w ∷ r) (take-bit
 
 pub drop-bits : (n m w : ℕ) → drop n (bits (n + m) w) ≡ bits m (w / 2 ^ n)
 drop-bits n m w = rw bits-add (drop-at (bits n w) (bits m (w / 2 ^ n)) n (bits-length n w))
+
+-- the bit at a place is the lowest one after a shift
+pub bits-at : (n w i : ℕ) → i < n → getD (bits n w) i false ≡ odd (w / 2 ^ i)
+unfolding bits
+bits-at zero w i h = absurd (omega arith)
+bits-at (suc n) w zero h = rw div-one
+bits-at (suc n) w (suc i) h = bits-at n (w / 2) i (omega arith) ∙ ap odd (shr-shr w 1 i ∙ ap (λ (x : ℕ). w / 2 ^ x) (one-add i))
 
 pub bits-zero : (n : ℕ) → bits n 0 ≡ replicate n false
 unfolding bits odd

@@ -1,1 +1,1 @@
-// The model has no code: its definitions and their laws are in specs/.
+// The model has no code: its definitions are in specs/, and their laws in proofs/.

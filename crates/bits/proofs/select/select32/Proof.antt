@@ -23,6 +23,9 @@ returns-2 c =
     let v = c .before .before .before .chosen32 in
     none-for-few 32 (s .args .bit) (s .args .word) (s .fits .word .fits) (v .result) (v .ensures) (s .args .k) (omega arith)
 
+cast-place-of-set : tie.Need-cast-place-of-set
+cast-place-of-set c = search needs
+
 place-of-set-requires : tie.Need-place-of-set-requires
 place-of-set-requires c κs = omega (arith, ones-within 32 32 (c .before .before .before .chosen32 .result) refl)
 
@@ -33,4 +36,4 @@ returns-3 c =
     at-place 32 (s .args .bit) (s .args .word) (s .fits .word .fits) (v .result) (v .ensures) 32 refl (s .args .k) (c .place-of-set .result) (omega arith) (c .place-of-set .ensures)
 
 pub select32-spec : {M : Type 1} → statement M
-select32-spec = tie.close (tie.spec chosen32-requires returns ones32-requires returns-2 place-of-set-requires returns-3)
+select32-spec = tie.close (tie.spec chosen32-requires returns ones32-requires returns-2 cast-place-of-set place-of-set-requires returns-3)
