@@ -17,4 +17,5 @@ pub mod PoolNumbers
 pub mod Rearranged
 pub mod Rounds
 pub mod Shape
+pub mod Table
 pub mod Words

@@ -6,3 +6,4 @@ pub mod Build
 pub mod Edit
 pub mod Sound
 pub mod Pool
+pub mod Reference
