@@ -1,0 +1,114 @@
+-- How a node stands in six words, and what a pool's words hold at a node's number.
+--
+--     free        0, next free number, 0, 0, 0, 0
+--     leaf        1, low word, high word, 0, 0, 0
+--     fork        2, left, right, left total, left ones, balance + 2
+use Prim.Native.Nat.{ℕ, zero, suc, _+_, _*_, _/_}
+use mathlib.Core.Path.{_≡_}
+use mathlib.Core.Bool.{Bool, true, false}
+use mathlib.Core.List.{List, [], _∷_}
+use lib.Dec.{ltb}
+use lib.ListN.{length, getD, set}
+use Rattle.bits.specs.declared.leaf.Leaf.{Leaf}
+use Rattle.pool.specs.declared.node.Cell.{Cell}
+use Rattle.pool.specs.declared.node.Fork.{Fork}
+use Rattle.pool.specs.declared.node.Node.{Node}
+use Rattle.pool.specs.declared.node.Node.the-variants.{Free as free, Leaf as leaf, Fork as fork, Broken as broken}
+use Rattle.pool.specs.declared.chain.Chain.{Chain}
+
+-- the words of a node
+abbrev pub node-words : ℕ
+node-words = 6
+
+-- ---- a node in six words
+
+unfoldable pub free-cell : ℕ → Cell
+free-cell next = record { kind = 0; a = next; b = 0; c = 0; d = 0; e = 0 }
+
+unfoldable pub leaf-cell : Leaf → Cell
+leaf-cell l = record { kind = 1; a = l .low; b = l .high; c = 0; d = 0; e = 0 }
+
+unfoldable pub fork-cell : Fork → Cell
+fork-cell f = record { kind = 2; a = f .left; b = f .right; c = f .«left_total»; d = f .«left_ones»; e = f .balance }
+
+-- a node, if the word beside it is zero
+unfoldable pub if-zero : ℕ → Node → Node
+if-zero zero x = x
+if-zero (suc n) x = broken
+
+-- what six words are laid out as, by the first of them
+unfoldable pub of-kind : ℕ → Cell → Node
+of-kind zero w = if-zero (w .b) (if-zero (w .c) (if-zero (w .d) (if-zero (w .e) (free (w .a)))))
+of-kind (suc zero) w = if-zero (w .c) (if-zero (w .d) (if-zero (w .e) (leaf (record { low = w .a; high = w .b }))))
+of-kind (suc (suc zero)) w = fork (record { left = w .a; right = w .b; «left_total» = w .c; «left_ones» = w .d; balance = w .e })
+of-kind (suc (suc (suc k))) w = broken
+
+unfoldable pub node-of : Cell → Node
+node-of w = of-kind (w .kind) w
+
+-- ---- a pool's nodes
+
+-- how many nodes these words have room for
+unfoldable pub nodes-in : List ℕ → ℕ
+nodes-in w = length w / node-words
+
+-- the six words of node n
+unfoldable pub cell-at : List ℕ → ℕ → Cell
+cell-at w n =
+    record {
+      kind = getD w (n * node-words) 0;
+      a = getD w (n * node-words + 1) 0;
+      b = getD w (n * node-words + 2) 0;
+      c = getD w (n * node-words + 3) 0;
+      d = getD w (n * node-words + 4) 0;
+      e = getD w (n * node-words + 5) 0;
+    }
+
+-- node n, or that there is none
+unfoldable pub node-at : List ℕ → ℕ → Node
+node-at w n = elim (ltb n (nodes-in w)) [ true ↦ node-of (cell-at w n) | false ↦ broken ]
+
+-- the words with six others at node n, if there is such a node
+unfoldable pub put : List ℕ → ℕ → Cell → List ℕ
+put w n x =
+    let at : ℕ = n * node-words in
+    elim (ltb n (nodes-in w)) [
+      | true ↦ set (set (set (set (set (set w at (x .kind)) (at + 1) (x .a)) (at + 2) (x .b)) (at + 3) (x .c)) (at + 4) (x .d)) (at + 5) (x .e)
+      | false ↦ w
+    ]
+
+-- all that is known of a store: w′ is w but for node n, which is x in it
+pub record Put (w w′ : List ℕ) (n : ℕ) (x : Node) : Type 0 where
+  pub size : length w′ ≡ length w
+  pub here : node-at w′ n ≡ x
+  pub else : (k : ℕ) → (k ≡ n → ⊥) → node-at w′ k ≡ node-at w k
+
+-- ---- the readers' answers
+
+-- the leaf of a node, an empty one where it is none
+unfoldable pub leaf-in : Node → Leaf
+leaf-in (leaf l) = l
+leaf-in (free k) = record { low = 0; high = 0 }
+leaf-in (fork f) = record { low = 0; high = 0 }
+leaf-in broken = record { low = 0; high = 0 }
+
+-- the fork of a node, one of nothing where it is none
+unfoldable pub fork-in : Node → Fork
+fork-in (fork f) = f
+fork-in (free k) = record { left = 0; right = 0; «left_total» = 0; «left_ones» = 0; balance = 2 }
+fork-in (leaf l) = record { left = 0; right = 0; «left_total» = 0; «left_ones» = 0; balance = 2 }
+fork-in broken = record { left = 0; right = 0; «left_total» = 0; «left_ones» = 0; balance = 2 }
+
+-- the number after a node in the chain, and the chain's end after a node that is not free
+unfoldable pub next-in : ℕ → Node → ℕ
+next-in end (free k) = k
+next-in end (leaf l) = end
+next-in end (fork f) = end
+next-in end broken = end
+
+-- the words with a tree's node put at a number, and as they are where it is none
+unfoldable pub put-node : List ℕ → ℕ → Node → List ℕ
+put-node w n (leaf l) = put w n (leaf-cell l)
+put-node w n (fork f) = put w n (fork-cell f)
+put-node w n (free k) = w
+put-node w n broken = w

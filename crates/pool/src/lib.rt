@@ -1,0 +1,18 @@
+// The nodes of a pool: six words each, read and written whole by their number, and the chain that the free ones form.
+// Nothing here knows a tree, and nothing above computes an address.
+mod chain;
+mod node;
+
+pub use chain::Chain;
+pub use chain::give_back;
+pub use chain::next_free;
+pub use node::Fork;
+pub use node::Node;
+pub use node::fork_at;
+pub use node::leaf_at;
+pub use node::move_node;
+pub use node::node_at;
+pub use node::node_count;
+pub use node::set_fork;
+pub use node::set_free;
+pub use node::set_leaf;
