@@ -7,6 +7,7 @@ pub mod BuiltNumbers
 pub mod Cases
 pub mod Content
 pub mod Counting
+pub mod Depth
 pub mod Leaves
 pub mod LeavesMended
 pub mod MarksEdits

@@ -7,6 +7,7 @@ use mathlib.Core.Bool.{Bool, true}
 use mathlib.Core.List.{List, [], _∷_, _++_}
 use mathlib.Core.Option.{Option, some}
 use lib.ListN.{length, drop}
+unfoldable pub use Rattle.model.specs.Sound.{all-numbers}
 use Rattle.model.specs.Tree.{size, numbers}
 use Rattle.model.specs.Sound.{Whole, Distinct}
 use Rattle.model.specs.Edit as Edit
@@ -14,10 +15,6 @@ use Rattle.model.specs.Pool.{Pool, insert, remove}
 use Rattle.model.proofs.PoolCases.{insert-outcomes}
 use Rattle.model.proofs.Numbers.{weight, numbers-weight, taken, insert-weight, remove-weight}
 use Rattle.model.proofs.Rearranged.{weigh, weigh-append, Rearranged, rearranged-distinct}
-
--- all numbers of a pool
-unfoldable pub all-numbers : Pool → List ℕ
-all-numbers p = numbers (p .tree) ++ p .free
 
 -- they weigh what the tree and the free chain do
 pub all-weight : (w : ℕ → ℕ) (p : Pool) → weigh w (all-numbers p) ≡ weight w (p .tree) + weigh w (p .free)

@@ -9,16 +9,8 @@ use lib.Dec.{eqb}
 use lib.ListN.{length}
 use borrow.Author.Tests.{eqb-true, eq-eqb}
 use Rattle.model.specs.Sound.{Distinct}
+unfoldable pub use Rattle.model.specs.Sound.{weigh, Rearranged}
 use Rattle.model.proofs.Cases.{by-test, by-leb}
-
--- the sum of the weights of the numbers in a list
-unfoldable pub weigh : (ℕ → ℕ) → List ℕ → ℕ
-weigh w [] = zero
-weigh w (n ∷ ns) = w n + weigh w ns
-
--- the same numbers, each equally often, in any order
-abbrev pub Rearranged : List ℕ → List ℕ → Type 0
-Rearranged ms ns = (w : ℕ → ℕ) → weigh w ms ≡ weigh w ns
 
 -- it goes both ways
 pub rearranged-sym : (ms ns : List ℕ) → Rearranged ms ns → Rearranged ns ms

@@ -4,6 +4,6 @@ pub mod Tree
 pub mod Turn
 pub mod Build
 pub mod Edit
-pub mod Sound
 pub mod Pool
+pub mod Sound
 pub mod Reference

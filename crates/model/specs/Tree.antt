@@ -52,3 +52,14 @@ last-leaf (fork n l r) = last-leaf r
 unfoldable pub renumber : ℕ → Tree → Tree
 renumber k (leaf n xs) = leaf k xs
 renumber k (fork n l r) = fork k l r
+
+-- how many leaves it has
+unfoldable pub leaf-total : Tree → ℕ
+leaf-total (leaf n xs) = 1
+leaf-total (fork n l r) = leaf-total l + leaf-total r
+
+-- the fewest leaves that a balanced tree of a height has
+unfoldable pub fewest-leaves : ℕ → ℕ
+fewest-leaves zero = 1
+fewest-leaves (suc zero) = 2
+fewest-leaves (suc (suc h)) = fewest-leaves (suc h) + fewest-leaves h
