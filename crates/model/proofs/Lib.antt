@@ -13,6 +13,7 @@ pub mod LeavesMended
 pub mod MarksEdits
 pub mod Numbers
 pub mod NumbersFrom
+pub mod Paths
 pub mod PoolCases
 pub mod PoolNumbers
 pub mod Rearranged

@@ -65,7 +65,7 @@ holds-one w (Tree.fork n l r) (Tree.fork m l′ r′) s v e z h k =
     let both : fork-of l r ≡ fork-of l′ r′ = cc in
     let left : size l ≡ size l′ = ap (λ (f : Fork). f .«left_total») both in
     let first : l ≡ l′ =
-      holds-one w l l′ (sized-weaken 0 33 l (omega arith) (s .0)) (sized-weaken 0 33 l′ (omega arith) (v .0)) (ap (λ (f : Fork). f .left) both) left (h .1) (k .1) in
+    holds-one w l l′ (sized-weaken 0 33 l (omega arith) (s .0)) (sized-weaken 0 33 l′ (omega arith) (v .0)) (ap (λ (f : Fork). f .left) both) left (h .1) (k .1) in
     let second : r ≡ r′ = holds-one w r r′ (s .1) (v .1) (ap (λ (f : Fork). f .right) both) (omega arith) (h .2) (k .2) in
     λ i. Tree.fork (e i) (first i) (second i)
 
@@ -108,3 +108,45 @@ module _ {w : List ℕ} {n levels : ℕ} (m : ℕ) (xs : List Bool) (t : Rooted 
 
   pub leaf-small : length xs ≤ 127
   leaf-small = t .sized .1
+
+-- ---- what was read tells the tree
+
+module _ {w : List ℕ} {n levels : ℕ} (P : Tree → Type 0) where
+  -- a leaf was read: the tree is a leaf of the marks that it holds
+  pub by-leaf : (t : Tree) (x : Leaf) → Rooted w n levels t → node-at w n ≡ leaf x
+      → ((m : ℕ) (xs : List Bool) → Rooted w n levels (Tree.leaf m xs) → x ≡ leaf-of xs → P (Tree.leaf m xs)) → P t
+  by-leaf (Tree.leaf m xs) x h e p = p m xs h (let same : leaf x ≡ leaf (leaf-of xs) = sym e ∙ leaf-read m xs h in cc)
+  by-leaf (Tree.fork m l r) x h e p =
+      let same : leaf x ≡ fork (fork-of l r) = sym e ∙ fork-read m l r h in
+      let never : _≡_ {A = ℕ} 0 1 = cc in
+      absurd (omega arith)
+
+  -- a fork was read: the tree is a fork, and it holds what the fork over its children does
+  pub by-fork : (t : Tree) (f : Fork) → Rooted w n levels t → node-at w n ≡ fork f
+      → ((m : ℕ) (l r : Tree) → Rooted w n levels (Tree.fork m l r) → f ≡ fork-of l r → P (Tree.fork m l r)) → P t
+  by-fork (Tree.leaf m xs) f h e p =
+      let same : fork f ≡ leaf (leaf-of xs) = sym e ∙ leaf-read m xs h in
+      let never : _≡_ {A = ℕ} 0 1 = cc in
+      absurd (omega arith)
+  by-fork (Tree.fork m l r) f h e p = p m l r h (let same : fork f ≡ fork (fork-of l r) = sym e ∙ fork-read m l r h in cc)
+
+-- no tree stands where a free node, or none, was read
+pub not-free : {A : Type 0} {w : List ℕ} {n levels : ℕ} (t : Tree) (k : ℕ) → Rooted w n levels t → node-at w n ≡ free k → A
+not-free (Tree.leaf m xs) k h e =
+    let same : free k ≡ leaf (leaf-of xs) = sym e ∙ leaf-read m xs h in
+    let never : _≡_ {A = ℕ} 0 1 = cc in
+    absurd (omega arith)
+not-free (Tree.fork m l r) k h e =
+    let same : free k ≡ fork (fork-of l r) = sym e ∙ fork-read m l r h in
+    let never : _≡_ {A = ℕ} 0 1 = cc in
+    absurd (omega arith)
+
+pub not-broken : {A : Type 0} {w : List ℕ} {n levels : ℕ} (t : Tree) → Rooted w n levels t → node-at w n ≡ broken → A
+not-broken (Tree.leaf m xs) h e =
+    let same : broken ≡ leaf (leaf-of xs) = sym e ∙ leaf-read m xs h in
+    let never : _≡_ {A = ℕ} 0 1 = cc in
+    absurd (omega arith)
+not-broken (Tree.fork m l r) h e =
+    let same : broken ≡ fork (fork-of l r) = sym e ∙ fork-read m l r h in
+    let never : _≡_ {A = ℕ} 0 1 = cc in
+    absurd (omega arith)

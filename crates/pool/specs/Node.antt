@@ -22,38 +22,38 @@ node-words = 6
 
 -- ---- a node in six words
 
-unfoldable pub free-cell : ℕ → Cell
+abbrev pub free-cell : ℕ → Cell
 free-cell next = record { kind = 0; a = next; b = 0; c = 0; d = 0; e = 0 }
 
-unfoldable pub leaf-cell : Leaf → Cell
+abbrev pub leaf-cell : Leaf → Cell
 leaf-cell l = record { kind = 1; a = l .low; b = l .high; c = 0; d = 0; e = 0 }
 
-unfoldable pub fork-cell : Fork → Cell
+abbrev pub fork-cell : Fork → Cell
 fork-cell f = record { kind = 2; a = f .left; b = f .right; c = f .«left_total»; d = f .«left_ones»; e = f .balance }
 
 -- a node, if the word beside it is zero
-unfoldable pub if-zero : ℕ → Node → Node
+abbrev pub if-zero : ℕ → Node → Node
 if-zero zero x = x
 if-zero (suc n) x = broken
 
 -- what six words are laid out as, by the first of them
-unfoldable pub of-kind : ℕ → Cell → Node
+abbrev pub of-kind : ℕ → Cell → Node
 of-kind zero w = if-zero (w .b) (if-zero (w .c) (if-zero (w .d) (if-zero (w .e) (free (w .a)))))
 of-kind (suc zero) w = if-zero (w .c) (if-zero (w .d) (if-zero (w .e) (leaf (record { low = w .a; high = w .b }))))
 of-kind (suc (suc zero)) w = fork (record { left = w .a; right = w .b; «left_total» = w .c; «left_ones» = w .d; balance = w .e })
 of-kind (suc (suc (suc k))) w = broken
 
-unfoldable pub node-of : Cell → Node
+abbrev pub node-of : Cell → Node
 node-of w = of-kind (w .kind) w
 
 -- ---- a pool's nodes
 
 -- how many nodes these words have room for
-unfoldable pub nodes-in : List ℕ → ℕ
+abbrev pub nodes-in : List ℕ → ℕ
 nodes-in w = length w / node-words
 
 -- the six words of node n
-unfoldable pub cell-at : List ℕ → ℕ → Cell
+abbrev pub cell-at : List ℕ → ℕ → Cell
 cell-at w n =
     record {
       kind = getD w (n * node-words) 0;
@@ -86,28 +86,28 @@ pub record Put (w w′ : List ℕ) (n : ℕ) (x : Node) : Type 0 where
 -- ---- the readers' answers
 
 -- the leaf of a node, an empty one where it is none
-unfoldable pub leaf-in : Node → Leaf
+abbrev pub leaf-in : Node → Leaf
 leaf-in (leaf l) = l
 leaf-in (free k) = record { low = 0; high = 0 }
 leaf-in (fork f) = record { low = 0; high = 0 }
 leaf-in broken = record { low = 0; high = 0 }
 
 -- the fork of a node, one of nothing where it is none
-unfoldable pub fork-in : Node → Fork
+abbrev pub fork-in : Node → Fork
 fork-in (fork f) = f
 fork-in (free k) = record { left = 0; right = 0; «left_total» = 0; «left_ones» = 0; balance = 2 }
 fork-in (leaf l) = record { left = 0; right = 0; «left_total» = 0; «left_ones» = 0; balance = 2 }
 fork-in broken = record { left = 0; right = 0; «left_total» = 0; «left_ones» = 0; balance = 2 }
 
 -- the number after a node in the chain, and the chain's end after a node that is not free
-unfoldable pub next-in : ℕ → Node → ℕ
+abbrev pub next-in : ℕ → Node → ℕ
 next-in end (free k) = k
 next-in end (leaf l) = end
 next-in end (fork f) = end
 next-in end broken = end
 
 -- the words with a tree's node put at a number, and as they are where it is none
-unfoldable pub put-node : List ℕ → ℕ → Node → List ℕ
+abbrev pub put-node : List ℕ → ℕ → Node → List ℕ
 put-node w n (leaf l) = put w n (leaf-cell l)
 put-node w n (fork f) = put w n (fork-cell f)
 put-node w n (free k) = w

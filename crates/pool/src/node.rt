@@ -7,7 +7,7 @@
 use bits::Leaf;
 ghost use mathlib.Core.Path.{_≡_};
 ghost use Prim.Native.Nat.{_<_};
-ghost use Rattle.pool.specs.Node.{cell-at, fork-cell, fork-in, free-cell, leaf-cell, leaf-in, node-at, node-of, nodes-in, of-kind, put, put-node};
+ghost use Rattle.pool.specs.Node.{cell-at, fork-cell, fork-in, free-cell, if-zero, leaf-cell, leaf-in, node-at, node-of, nodes-in, of-kind, put, put-node};
 
 // The words of a node.
 const NODE_WORDS: u64 = 6;
@@ -83,41 +83,35 @@ fn put_cell(nodes: &mut [u64], n: u64, cell: Cell)
     }
 }
 
+// A node, if the word beside it is zero.
+fn if_zero(word: u64, node: Node) -> Node
+    ensures { λ r. ⌜ r ≡ if-zero word node ⌝ }
+{
+    if word == 0 {
+        return node;
+    }
+    Node::Broken
+}
+
 fn free_of(cell: Cell) -> Node
     ensures { λ r. ⌜ r ≡ of-kind 0 cell ⌝ }
 {
-    if cell.b != 0 {
-        return Node::Broken;
-    }
-    if cell.c != 0 {
-        return Node::Broken;
-    }
-    if cell.d != 0 {
-        return Node::Broken;
-    }
-    if cell.e != 0 {
-        return Node::Broken;
-    }
-    Node::Free(cell.a)
+    let node = Node::Free(cell.a);
+    if_zero(
+        cell.b,
+        if_zero(cell.c, if_zero(cell.d, if_zero(cell.e, node))),
+    )
 }
 
 fn leaf_of(cell: Cell) -> Node
     ensures { λ r. ⌜ r ≡ of-kind 1 cell ⌝ }
 {
-    if cell.c != 0 {
-        return Node::Broken;
-    }
-    if cell.d != 0 {
-        return Node::Broken;
-    }
-    if cell.e != 0 {
-        return Node::Broken;
-    }
     let leaf = Leaf {
         low: cell.a,
         high: cell.b,
     };
-    Node::Leaf(leaf)
+    let node = Node::Leaf(leaf);
+    if_zero(cell.c, if_zero(cell.d, if_zero(cell.e, node)))
 }
 
 fn fork_of(cell: Cell) -> Node

@@ -1,0 +1,65 @@
+-- What the calls answer and leave, for all words, by the scope's sequence of tests.
+use Prim.Native.Nat.{ℕ, zero, suc, _+_, _*_, _/_, _≤_, _<_}
+use mathlib.Core.Path.{_≡_}
+use mathlib.Core.Bool.{Bool}
+use mathlib.Core.List.{List, [], _∷_, _++_}
+use mathlib.Core.Option.{Option, none, some}
+use lib.ListN.{length, take, drop}
+use Rattle.model.specs.Pool as Pool
+use Rattle.model.specs.Pool.{Pool}
+use Rattle.model.specs.Tree.{marks, size}
+use Rattle.model.specs.Word.{bits}
+use Rattle.bits.specs.Leaf.{packed}
+use Rattle.window.specs.Layout.{Counted, Stands, WellFormed}
+use Rattle.window.specs.declared.answer.Answer.{Answer}
+use Rattle.window.specs.declared.answer.Answer.the-variants.{Done, Full, WrongSize, NotSound, ShortOutput, TooLong}
+
+-- no pool has so many words
+abbrev pub NoPool : List ℕ → Type 0
+NoPool ws = (n : ℕ) → Counted ws n → ⊥
+
+-- the words are as many as a pool's, but none stands in them
+pub record Damaged (ws : List ℕ) : Type 0 where
+  pub count : (n : ℕ) × Counted ws n
+  pub none : WellFormed ws → ⊥
+
+-- ---- check: its tests are 6, 7
+
+pub record Checked (ws : List ℕ) (r : Answer) : Type 0 where
+  pub no-pool : NoPool ws → r ≡ WrongSize
+  pub damaged : Damaged ws → r ≡ NotSound
+  pub sound : (n : ℕ) (p : Pool) → Stands ws n p → r ≡ Done (size (p .tree))
+
+-- ---- build: its tests are 6, 10, 4
+
+-- the marks of some words, the lowest bit of the first word first
+unfoldable pub marks-of : List ℕ → List Bool
+marks-of [] = []
+marks-of (w ∷ ws) = bits 64 w ++ marks-of ws
+
+-- ws and ws′ are the pool's words before and after
+pub record Built (ws : List ℕ) (words : List ℕ) (len : ℕ) (r : Answer) (ws′ : List ℕ) : Type 0 where
+  pub no-pool : NoPool ws → (r ≡ WrongSize) × (ws′ ≡ ws)
+  pub too-long : (n : ℕ) → Counted ws n → 64 * length words < len → (r ≡ TooLong) × (ws′ ≡ ws)
+  pub full : (n : ℕ) → Counted ws n → len ≤ 64 * length words → Pool.build n (take len (marks-of words)) ≡ none → (r ≡ Full) × (ws′ ≡ ws)
+  pub built : (n : ℕ) (p : Pool) → Counted ws n → len ≤ 64 * length words → Pool.build n (take len (marks-of words)) ≡ some p
+      → (r ≡ Done len) × Stands ws′ n p
+
+-- ---- values: its tests are 6, 7, 8
+
+-- marks in words of 64, so many words, the last ones padded with zeros
+unfoldable pub words-of : ℕ → List Bool → List ℕ
+words-of zero xs = []
+words-of (suc k) xs = packed xs ∷ words-of k (drop 64 xs)
+
+-- two words for each 128 marks begun
+unfoldable pub words-for : ℕ → ℕ
+words-for len = (len + 127) / 128 * 2
+
+-- out and out′ are the output before and after
+pub record Valued (ws : List ℕ) (out : List ℕ) (r : Answer) (out′ : List ℕ) : Type 0 where
+  pub no-pool : NoPool ws → (r ≡ WrongSize) × (out′ ≡ out)
+  pub damaged : Damaged ws → (r ≡ NotSound) × (out′ ≡ out)
+  pub short : (n : ℕ) (p : Pool) → Stands ws n p → length out < words-for (size (p .tree)) → (r ≡ ShortOutput) × (out′ ≡ out)
+  pub written : (n : ℕ) (p : Pool) → Stands ws n p → words-for (size (p .tree)) ≤ length out
+      → (r ≡ Done (words-for (size (p .tree)))) × (out′ ≡ words-of (words-for (size (p .tree))) (marks (p .tree)) ++ drop (words-for (size (p .tree))) out)
