@@ -1,15 +1,13 @@
 -- What the calls answer and leave, for all words, by the scope's sequence of tests.
-use Prim.Native.Nat.{ℕ, zero, suc, _+_, _*_, _/_, _≤_, _<_}
+use Prim.Native.Nat.{ℕ, _*_, _≤_, _<_}
 use mathlib.Core.Path.{_≡_}
-use mathlib.Core.Bool.{Bool}
-use mathlib.Core.List.{List, [], _∷_, _++_}
+use mathlib.Core.List.{List, _++_}
 use mathlib.Core.Option.{Option, none, some}
 use lib.ListN.{length, take, drop}
 use Rattle.model.specs.Pool as Pool
 use Rattle.model.specs.Pool.{Pool}
 use Rattle.model.specs.Tree.{marks, size}
-use Rattle.model.specs.Word.{bits}
-use Rattle.bits.specs.Leaf.{packed}
+use Rattle.model.specs.Word.{marks-of, words-of, words-for}
 use Rattle.window.specs.Layout.{Counted, Stands, WellFormed}
 use Rattle.window.specs.declared.answer.Answer.{Answer}
 use Rattle.window.specs.declared.answer.Answer.the-variants.{Done, Full, WrongSize, NotSound, ShortOutput, TooLong}
@@ -32,11 +30,6 @@ pub record Checked (ws : List ℕ) (r : Answer) : Type 0 where
 
 -- ---- build: its tests are 6, 10, 4
 
--- the marks of some words, the lowest bit of the first word first
-unfoldable pub marks-of : List ℕ → List Bool
-marks-of [] = []
-marks-of (w ∷ ws) = bits 64 w ++ marks-of ws
-
 -- ws and ws′ are the pool's words before and after
 pub record Built (ws : List ℕ) (words : List ℕ) (len : ℕ) (r : Answer) (ws′ : List ℕ) : Type 0 where
   pub no-pool : NoPool ws → (r ≡ WrongSize) × (ws′ ≡ ws)
@@ -46,15 +39,6 @@ pub record Built (ws : List ℕ) (words : List ℕ) (len : ℕ) (r : Answer) (ws
       → (r ≡ Done len) × Stands ws′ n p
 
 -- ---- values: its tests are 6, 7, 8
-
--- marks in words of 64, so many words, the last ones padded with zeros
-unfoldable pub words-of : ℕ → List Bool → List ℕ
-words-of zero xs = []
-words-of (suc k) xs = packed xs ∷ words-of k (drop 64 xs)
-
--- two words for each 128 marks begun
-unfoldable pub words-for : ℕ → ℕ
-words-for len = (len + 127) / 128 * 2
 
 -- out and out′ are the output before and after
 pub record Valued (ws : List ℕ) (out : List ℕ) (r : Answer) (out′ : List ℕ) : Type 0 where
