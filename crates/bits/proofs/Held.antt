@@ -6,7 +6,7 @@ use native.Mathlib.Omega.{arith}
 use mathlib.Core.Path.{_≡_, refl, sym, ap, ap₂, _∙_}
 use mathlib.Core.Bool.{Bool, true, false}
 use mathlib.Core.List.{List, [], _∷_, _++_, append-assoc, append-nil}
-use lib.ListN.{length, take, drop, getD, replicate, replicate-append-replicate, length-drop, drop-of-length-le, take-append-drop, List·getD-append}
+use lib.ListN.{length, take, drop, getD, replicate, replicate-append-replicate, length-drop, drop-of-length-le, take-append-drop}
 use lib.Seq.{drop-nil, take-append-le, take-append-seam, take-all, length-take-le}
 use Rattle.model.specs.Marks.{access, count, insert, rank, remove, select}
 use Rattle.model.specs.Word.{bits, number}
@@ -66,6 +66,13 @@ held-bits xs h = by-ltb (length xs) 64 (λ e l. few l) (λ e l. many l)
         ∙ sym (append-assoc (take 64 xs) (drop 64 xs) (replicate (64 - length (drop 64 xs)) false))
         ∙ ap₂ (λ (ys : List Bool) (n : ℕ). ys ++ replicate n false) (take-append-drop 64 xs) width
 
+getD-padded : (i m : ℕ) (xs : List Bool) → getD (xs ++ replicate m false) i false ≡ getD xs i false
+getD-padded i zero [] = refl
+getD-padded zero (suc m) [] = refl
+getD-padded (suc i) (suc m) [] = getD-padded i m []
+getD-padded zero m (x ∷ xs) = refl
+getD-padded (suc i) m (x ∷ xs) = getD-padded i m xs
+
 -- ---- each call on a leaf that holds marks
 
 module _ (xs : List Bool) where
@@ -94,9 +101,10 @@ module _ (xs : List Bool) where
   unfolding rank
   rank-held b end h l = ap (λ (ys : List Bool). count b (take end ys)) (held-bits xs h) ∙ ap (count b) (take-append-le end xs (replicate (128 - length xs) false) l)
 
-  pub access-held : (i : ℕ) → length xs ≤ 128 → i < length xs → access i (bits-of (leaf-of xs)) ≡ access i xs
+  -- past the marks both are quiet
+  pub access-held : (i : ℕ) → length xs ≤ 128 → access i (bits-of (leaf-of xs)) ≡ access i xs
   unfolding access
-  access-held i h l = ap (λ (ys : List Bool). getD ys i false) (held-bits xs h) ∙ List·getD-append xs (replicate (128 - length xs) false) false i l
+  access-held i h = ap (λ (ys : List Bool). getD ys i false) (held-bits xs h) ∙ getD-padded i (128 - length xs) xs
 
   -- the k-th mark, where there are as many: the zeros past the marks are not reached
   pub select-held : (b : Bool) (k : ℕ) → length xs ≤ 128 → k ≤ count b xs → select b k (bits-of (leaf-of xs)) ≡ select b k xs

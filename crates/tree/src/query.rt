@@ -1,17 +1,25 @@
-// Asking a tree: each question goes down one path. At a node that no tree has there, or too far down, the answer is that of an
-// empty leaf.
+// Asking a tree: each question goes down one path.
 ghost use mathlib.Core.Bool.{true, false};
 ghost use mathlib.Core.Path.{_≡_};
-ghost use Prim.Native.Nat.{_≤_, _<_, _-_};
+ghost use Prim.Native.Nat.{_≤_, _<_};
 ghost use Rattle.model.specs.Marks as Marks;
 ghost use Rattle.model.specs.Tree.{Tree, marks, size};
 ghost use Rattle.pool.specs.Layout.{Rooted};
-ghost use Rattle.tree.specs.Query.{found-at, found-of, of-kind};
+ghost use Rattle.tree.specs.Query.{Near, Spotted, found-at, found-of, of-kind};
 use crate::LEVELS;
+use bits::Leaf;
 use bits::Place;
 use bits::select128;
 use pool::Node;
 use pool::node_at;
+
+// Where a place of a tree lies: the leaf, how many marks it holds, the place in it, and how many strikes stand before the leaf.
+pub struct Spot {
+    pub leaf: Leaf,
+    pub length: u64,
+    pub at: u64,
+    pub ones: u64,
+}
 
 // Where a wanted mark stands; that there are too few; or that its leaf lacks it.
 pub enum Found {
@@ -20,66 +28,79 @@ pub enum Found {
     Missing,
 }
 
-// The mark at a place.
-pub fn access(nodes: &[u64], root: u64, index: u64) -> bool
-    ensures { λ r. ⌜ ((t : Tree) → Rooted (now (nodes .entry)) root 12 t → index < size t → r ≡ Marks.access index (marks t)) ⌝ }
+// The leaf that a place leads to: left where it is below the left child's total, else right.
+pub fn reach(nodes: &[u64], root: u64, length: u64, place: u64) -> Spot
+    requires { ⌜ ((t : Tree) × Rooted (now nodes) root 12 t × (size t ≡ length) × (place ≤ length)) ⌝ }
+    ensures { λ r. ⌜ ((t : Tree) → Rooted (now (nodes .entry)) root 12 t → size t ≡ length → place ≤ length → Spotted t place r) ⌝ }
 {
     let mut n = root;
-    let mut at = index;
-    let mut levels = LEVELS;
-    loop {
-        match node_at(nodes, n) {
-            Node::Leaf(leaf) => return leaf.bit_at(at),
-            Node::Fork(fork) => {
-                if levels == 0 {
-                    return false;
-                }
-                levels -= 1;
-                if at < fork.left_total {
-                    n = fork.left;
-                } else {
-                    at -= fork.left_total;
-                    n = fork.right;
-                }
-            }
-            Node::Free(_) => return false,
-            Node::Broken => return false,
-        }
-    }
-}
-
-// How many strikes stand before a place.
-pub fn rank(nodes: &[u64], root: u64, end: u64) -> u64
-    requires { ⌜ ((t : Tree) × Rooted (now nodes) root 12 t) ⌝ }
-    ensures { λ r. ⌜ ((t : Tree) → Rooted (now (nodes .entry)) root 12 t → end ≤ size t → r ≡ Marks.rank true end (marks t)) ⌝ }
-{
-    let mut n = root;
-    let mut at = end;
+    let mut len = length;
+    let mut at = place;
     let mut ones = 0;
     let mut levels = LEVELS;
     loop {
         match node_at(nodes, n) {
-            Node::Leaf(leaf) => return ones + leaf.count_before(at, true),
+            Node::Leaf(leaf) => {
+                return Spot {
+                    leaf,
+                    length: len,
+                    at,
+                    ones,
+                };
+            }
             Node::Fork(fork) => {
                 if levels == 0 {
-                    return ones;
+                    return nowhere();
                 }
                 levels -= 1;
-                if at <= fork.left_total {
+                if at < fork.left_total {
+                    len = fork.left_total;
                     n = fork.left;
                 } else {
+                    len -= fork.left_total;
                     at -= fork.left_total;
                     ones += fork.left_ones;
                     n = fork.right;
                 }
             }
-            Node::Free(_) => return ones,
-            Node::Broken => return ones,
+            Node::Free(_) => return nowhere(),
+            Node::Broken => return nowhere(),
         }
     }
 }
 
-// How many of so many marks are wanted, if so many of them are strikes.
+// An empty leaf, for words that hold no tree.
+fn nowhere() -> Spot {
+    let leaf = Leaf { low: 0, high: 0 };
+    Spot {
+        leaf,
+        length: 0,
+        at: 0,
+        ones: 0,
+    }
+}
+
+// The mark at a place.
+pub fn access(nodes: &[u64], root: u64, length: u64, index: u64) -> bool
+    requires { ⌜ ((t : Tree) × Rooted (now nodes) root 12 t × (size t ≡ length) × (index < length)) ⌝ }
+    ensures { λ r. ⌜ ((t : Tree) → Rooted (now (nodes .entry)) root 12 t → size t ≡ length → r ≡ Marks.access index (marks t)) ⌝ }
+{
+    let spot = reach(nodes, root, length, index);
+    let leaf = spot.leaf;
+    leaf.bit_at(spot.at)
+}
+
+// How many strikes stand before a place.
+pub fn rank(nodes: &[u64], root: u64, length: u64, end: u64) -> u64
+    requires { ⌜ ((t : Tree) × Rooted (now nodes) root 12 t × (size t ≡ length) × (end ≤ length)) ⌝ }
+    ensures { λ r. ⌜ ((t : Tree) → Rooted (now (nodes .entry)) root 12 t → size t ≡ length → r ≡ Marks.rank true end (marks t)) ⌝ }
+{
+    let spot = reach(nodes, root, length, end);
+    let leaf = spot.leaf;
+    spot.ones + leaf.count_before(spot.at, true)
+}
+
+// How many of so many marks are of a kind, where so many are strikes.
 fn wanted(total: u64, ones: u64, bit: bool) -> u64
     requires { ⌜ ones ≤ total ⌝ }
     ensures { λ r. ⌜ r ≡ of-kind bit total ones ⌝ }
@@ -92,10 +113,10 @@ fn wanted(total: u64, ones: u64, bit: bool) -> u64
 
 // The place of the k-th strike, or quiet frame, k from 1.
 pub fn select(nodes: &[u64], root: u64, length: u64, bit: bool, k: u64) -> Found
-    requires { ⌜ ((t : Tree) × Rooted (now nodes) root 12 t × (size t ≡ length)) ⌝ }
+    requires { ⌜ ((t : Tree) × Rooted (now nodes) root 12 t × (size t ≡ length) × (1 ≤ k)) ⌝ }
     ensures { λ r. ⌜ ((t : Tree) → Rooted (now (nodes .entry)) root 12 t → size t ≡ length → r ≡ found-of (Marks.select bit k (marks t))) ⌝ }
 {
-    if wanted(length, rank(nodes, root, length), bit) < k {
+    if wanted(length, rank(nodes, root, length, length), bit) < k {
         return Found::TooFew;
     }
     select_below(nodes, root, bit, k)
@@ -103,8 +124,8 @@ pub fn select(nodes: &[u64], root: u64, length: u64, bit: bool, k: u64) -> Found
 
 // The same where the tree has as many.
 fn select_below(nodes: &[u64], root: u64, bit: bool, k: u64) -> Found
-    requires { ⌜ ((t : Tree) × Rooted (now nodes) root 12 t) ⌝ }
-    ensures { λ r. ⌜ ((t : Tree) → Rooted (now (nodes .entry)) root 12 t → 1 ≤ k → k ≤ Marks.count bit (marks t) → r ≡ found-of (Marks.select bit k (marks t))) ⌝ }
+    requires { ⌜ ((t : Tree) × Rooted (now nodes) root 12 t × (1 ≤ k) × (k ≤ Marks.count bit (marks t))) ⌝ }
+    ensures { λ r. ⌜ ((t : Tree) → Rooted (now (nodes .entry)) root 12 t → k ≤ Marks.count bit (marks t) → r ≡ found-of (Marks.select bit k (marks t))) ⌝ }
 {
     let mut n = root;
     let mut left = k;
@@ -134,7 +155,10 @@ fn select_below(nodes: &[u64], root: u64, bit: bool, k: u64) -> Found
 }
 
 // A place in a leaf, with the marks before the leaf counted in.
-fn placed(before: u64, place: Place) -> Found {
+fn placed(before: u64, place: Place) -> Found
+    requires { ⌜ Near before place ⌝ }
+    ensures { λ r. ⌜ r ≡ found-at before place ⌝ }
+{
     match place {
         Place::At(at) => Found::At(before + at),
         Place::Nothing => Found::Missing,
