@@ -76,6 +76,15 @@ place-none k xs h = rw (← append-nil xs) (place-in-second k xs [] h ∙ ap (fu
     nowhere zero = refl
     nowhere (suc j) = refl
 
+-- there is one where there are as many
+pub place-some : (k : ℕ) (xs : List Bool) → 1 ≤ k → k ≤ ones xs → (p : ℕ) × (place k xs ≡ some p)
+unfolding place further ones
+place-some zero xs h l = absurd (omega arith)
+place-some (suc k) [] h l = absurd (omega arith)
+place-some (suc zero) (true ∷ xs) h l = (zero, refl)
+place-some (suc (suc k)) (true ∷ xs) h l = let q = place-some (suc k) xs (omega arith) (omega arith) in (1 + q .0, ap (further 1) (q .1))
+place-some (suc k) (false ∷ xs) h l = let q = place-some (suc k) xs h l in (1 + q .0, ap (further 1) (q .1))
+
 -- a place that is found lies in the list
 pub place-below : (k : ℕ) (xs : List Bool) (p : ℕ) → place k xs ≡ some p → p < length xs
 unfolding place further
@@ -132,3 +141,11 @@ select-none b k xs h = place-none k (wanted b xs) h
 pub select-zero : (b : Bool) (xs : List Bool) → select b zero xs ≡ none
 unfolding select
 select-zero b xs = place-zero (wanted b xs)
+
+pub select-some : (b : Bool) (k : ℕ) (xs : List Bool) → 1 ≤ k → k ≤ count b xs → (p : ℕ) × (select b k xs ≡ some p)
+unfolding count select
+select-some b k xs h l = place-some k (wanted b xs) h l
+
+pub select-below : (b : Bool) (k : ℕ) (xs : List Bool) (p : ℕ) → select b k xs ≡ some p → p < length xs
+unfolding select
+select-below b k xs p e = rw (← wanted-length b xs) (place-below k (wanted b xs) p e)

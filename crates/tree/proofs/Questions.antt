@@ -1,5 +1,5 @@
 -- The questions along a path: what is known of the subtree that a walk stands on, and how a step keeps it.
-use Prim.Native.Nat.{ℕ, zero, suc, _+_, _-_, _≤_, _<_}
+use Prim.Native.Nat.{ℕ, zero, suc, _+_, _-_, _^_, _≤_, _<_}
 use native.Mathlib.Nat.{zero-add}
 use native.Mathlib.Omega.{arith}
 use borrow.Author.Tests.{lt-ltb, le-ltb}
@@ -8,22 +8,22 @@ use mathlib.Core.Bool.{Bool, true, false}
 use mathlib.Core.List.{List, _++_}
 use mathlib.Core.Option.{Option, none, some}
 use lib.ListN.{length, take, length-take}
+use lib.Seq.{take-all}
 use Rattle.model.specs.Edit.{leaf-at}
 use Rattle.model.specs.Marks.{access, count, further, ones, rank, select, wanted}
 use Rattle.model.specs.Tree as Tree
 use Rattle.model.specs.Tree.{Tree, marks, size}
 use Rattle.model.proofs.Content.{size-marks}
-use Rattle.model.proofs.Counting.{further-further, ones-le, wanted-length}
+use Rattle.model.proofs.Counting.{count-append, further-zero, further-further, select-some, select-below, ones-le, wanted-length}
 use Rattle.model.proofs.Paths.{access-left, access-right, rank-left, rank-right, select-left, select-right, count-size}
 use Rattle.bits.specs.Leaf.{leaf-of, bits-of}
 use Rattle.bits.specs.Select.{placed}
 use Rattle.bits.specs.declared.leaf.Leaf.{Leaf}
 use Rattle.bits.specs.declared.select.Place.{Place}
-use Rattle.bits.specs.declared.select.Place.the-variants.{At as at-place, Nothing as no-place}
 use Rattle.bits.proofs.Held.{select-held}
 use Rattle.pool.specs.Layout.{fork-of}
 use Rattle.pool.specs.declared.node.Fork.{Fork}
-use Rattle.tree.specs.Query.{Spotted, found-at, found-of, of-kind}
+use Rattle.tree.specs.Query.{Near, Spotted, found-at, found-of, of-kind}
 use Rattle.tree.specs.declared.query.Spot.{Spot}
 
 -- ---- where a place leads
@@ -58,7 +58,7 @@ module _ {t₀ : Tree} {place len at sum : ℕ} where
     small = rw (p .leaf) at h;
     within = rw (← p .leaf) (p .within);
     mark = rw (← p .leaf) (p .mark);
-    strikes = rw (← p .leaf) (p .strikes)
+    strikes = rw (← p .leaf) (p .strikes);
   }
 
   module _ (m : ℕ) (l r : Tree) (f : Fork) (e : f ≡ fork-of l r) (p : Reaching t₀ place len at sum (Tree.fork m l r)) where
@@ -72,7 +72,7 @@ module _ {t₀ : Tree} {place len at sum : ℕ} where
           within = k′;
           leaf = sym (leaf-left at m l r k) ∙ p .leaf;
           mark = sym (access-left l r at k) ∙ p .mark;
-          strikes = ap (λ (n : ℕ). sum + n) (sym (rank-left l r true at k′)) ∙ p .strikes
+          strikes = ap (λ (n : ℕ). sum + n) (sym (rank-left l r true at k′)) ∙ p .strikes;
         }
 
     pub reach-second : f .«left_total» ≤ at → Reaching t₀ place (len - f .«left_total») (at - f .«left_total») (sum + f .«left_ones») r
@@ -84,7 +84,7 @@ module _ {t₀ : Tree} {place len at sum : ℕ} where
           within = omega (arith, p .within);
           leaf = sym (leaf-right at m l r k) ∙ p .leaf;
           mark = sym (access-right l r at k) ∙ p .mark;
-          strikes = omega (arith, p .strikes, rank-right l r true at k)
+          strikes = omega (arith, p .strikes, rank-right l r true at k);
         })
 
     -- a subtree is not larger than the tree, and what is added is no more than what is asked for
@@ -100,3 +100,77 @@ module _ {t₀ : Tree} {place len at sum : ℕ} where
 pub rank-most : (t : Tree) (b : Bool) (end : ℕ) → rank b end (marks t) ≤ size t
 unfolding rank count
 rank-most t b end = omega (arith, ones-le (wanted b (take end (marks t))), wanted-length b (take end (marks t)), length-take end (marks t), size-marks t)
+
+-- ---- select
+
+-- A walk to the k-th mark of a kind in the tree t₀: it is the left-th of its kind in the subtree, before which so many marks stand.
+pub record Selecting (t₀ : Tree) (b : Bool) (k left before : ℕ) (t : Tree) : Type 0 where
+  pub one : 1 ≤ left
+  pub enough : left ≤ count b (marks t)
+  pub place : further before (select b left (marks t)) ≡ select b k (marks t₀)
+  pub room : before + size t ≤ size t₀
+
+pub select-begin : (t : Tree) (b : Bool) (k : ℕ) → 1 ≤ k → k ≤ count b (marks t) → Selecting t b k k 0 t
+select-begin t b k h l = record { one = h; enough = l; place = further-zero (select b k (marks t)); room = omega arith }
+
+-- how many marks of a kind the left child holds, from what its fork says
+pub kind-count : (b : Bool) (t : Tree) → of-kind b (size t) (count true (marks t)) ≡ count b (marks t)
+kind-count true t = refl
+kind-count false t = omega (arith, count-size t)
+
+-- before the end of the tree stand all its marks
+pub rank-all : (t : Tree) (b : Bool) (len : ℕ) → size t ≡ len → rank b len (marks t) ≡ count b (marks t)
+unfolding rank
+rank-all t b len e = ap (count b) (take-all len (marks t) (omega (arith, size-marks t)))
+
+-- how many of a kind there are, from the strikes before the end
+pub kind-all : (t : Tree) (b : Bool) (len : ℕ) → size t ≡ len → of-kind b len (rank true len (marks t)) ≡ count b (marks t)
+kind-all t b len e = rw (rank-all t true len e, ← e) (kind-count b t)
+
+module _ {t₀ : Tree} {b : Bool} {k left before : ℕ} where
+  -- in a leaf the mark is found, at a place that can be counted
+  module _ (m : ℕ) (xs : List Bool) (x : Leaf) (e : x ≡ leaf-of xs) (h : length xs ≤ 127) (p : Selecting t₀ b k left before (Tree.leaf m xs)) (r : Place)
+      (a : r ≡ placed (select b left (bits-of x))) where
+    answer : r ≡ placed (select b left xs)
+    unfolding marks
+    answer = a ∙ ap (λ (y : Leaf). placed (select b left (bits-of y))) e ∙ ap placed (select-held xs b left (omega arith) (p .enough))
+
+    pub select-near : size t₀ < 2 ^ 64 → Near before r
+    unfolding marks size placed
+    select-near l =
+        let q = select-some b left xs (p .one) (p .enough) in
+        rw (answer, q .1) (omega (arith, select-below b left xs (q .0) (q .1), p .room))
+
+    pub select-here : found-at before r ≡ found-of (select b k (marks t₀))
+    unfolding marks placed further
+    select-here =
+        let q = select-some b left xs (p .one) (p .enough) in
+        rw (answer, ← p .place, q .1)
+
+  module _ (m : ℕ) (l r : Tree) (f : Fork) (e : f ≡ fork-of l r) (p : Selecting t₀ b k left before (Tree.fork m l r)) where
+    pub select-first : left ≤ of-kind b (f .«left_total») (f .«left_ones») → Selecting t₀ b k left before l
+    unfolding size marks fork-of
+    select-first h =
+        let n : left ≤ count b (marks l) = rw (kind-count b l) at (rw e at h) in
+        record { one = p .one; enough = n; place = ap (further before) (sym (select-left l r b left n)) ∙ p .place; room = omega (arith, p .room) }
+
+    pub select-second : of-kind b (f .«left_total») (f .«left_ones») < left
+        → Selecting t₀ b k (left - of-kind b (f .«left_total») (f .«left_ones»)) (before + f .«left_total») r
+    unfolding size marks fork-of
+    select-second h =
+        let n : count b (marks l) < left = rw (kind-count b l) at (rw e at h) in
+        rw (e, kind-count b l) (record {
+          one = omega arith;
+          enough = omega (arith, p .enough, count-append b (marks l) (marks r));
+          place = sym (further-further before (size l) _) ∙ ap (further before) (sym (select-right l r b left n)) ∙ p .place;
+          room = omega (arith, p .room);
+        })
+
+    -- a left child has no more strikes than marks, and the marks before the right one can be counted
+    pub select-strikes : f .«left_ones» ≤ f .«left_total»
+    unfolding fork-of
+    select-strikes = rw e (omega (arith, count-size l))
+
+    pub select-before : before + f .«left_total» ≤ size t₀
+    unfolding size fork-of
+    select-before = rw e (omega (arith, p .room))

@@ -1,26 +1,21 @@
+-- The place counts the marks before its leaf. Assumes nothing.
 use borrow.Author.Needs.{needs}
+use Rattle.tree.specs.Query.{Near, found-at}
 use Rattle.tree.proofs.query.placed.Statement.{statement}
 use Rattle.tree.proofs.query.placed.Tie as tie
-use Rattle.tree.proofs.query.placed.Reads as reads
-use Rattle.tree.proofs.query.placed.Lts as lts
 
--- src/query.rt:163:19
 enum-known-place : tie.Need-enum-known-place
 enum-known-place c = search needs
 
--- src/query.rt:163:36
 add-t5 : tie.Need-add-t5
-add-t5 c = ?
+add-t5 c = record { fits = rw (c .before .place .given .1) at (c .before .before .before .pre) }
 
--- src/query.rt:164:27
 enum-told : tie.Need-enum-told
 enum-told c = search needs
 
--- src/query.rt:158:1
 returns : tie.Need-returns
-returns c = ?
+returns c = rw (c .before .place .given .1)
 
--- src/query.rt:158:1
 returns-2 : tie.Need-returns-2
 returns-2 c = search needs
 
