@@ -44,6 +44,7 @@ module _ (w : List ℕ) (n : ℕ) where
 abbrev words : Cell → List ℕ
 words x = x .kind ∷ x .a ∷ x .b ∷ x .c ∷ x .d ∷ x .e ∷ []
 
+-- cells with the same words are the same
 cell-same : (x y : Cell) → ((j : ℕ) → j < 6 → getD (words x) j 0 ≡ getD (words y) j 0) → x ≡ y
 cell-same x y h i =
     record {
@@ -67,11 +68,13 @@ word-at w n (suc (suc (suc (suc (suc (suc j)))))) h = absurd (omega arith)
 
 -- ---- a run of stores
 
+-- beside the run all is as it was
 getD-sets-out : (l : List ℕ) (i : ℕ) (vs : List ℕ) (j : ℕ) → (j < i) ⊎ (i + length vs ≤ j) → getD (sets l i vs) j 0 ≡ getD l j 0
 getD-sets-out l i [] j h = refl
 getD-sets-out l i (v ∷ vs) j (inl h) = getD-sets-out (set l i v) (suc i) vs j (inl (omega arith)) ∙ getD-set-other l i j v 0 (λ e. omega arith)
 getD-sets-out l i (v ∷ vs) j (inr h) = getD-sets-out (set l i v) (suc i) vs j (inr (omega arith)) ∙ getD-set-other l i j v 0 (λ e. omega arith)
 
+-- in the run stands what was stored
 getD-sets-in : (l : List ℕ) (i : ℕ) (vs : List ℕ) (j : ℕ) → j < length vs → i + length vs ≤ length l → getD (sets l i vs) (i + j) 0 ≡ getD vs j 0
 getD-sets-in l i [] j h f = absurd (omega arith)
 getD-sets-in l i (v ∷ vs) zero h f =
@@ -81,6 +84,7 @@ getD-sets-in l i (v ∷ vs) (suc j) h f =
     ap (λ (k : ℕ). getD (sets l i (v ∷ vs)) k 0) (omega arith)
     ∙ getD-sets-in (set l i v) (suc i) vs j (omega arith) (rw length-set (omega arith))
 
+-- a node's store is a run of six
 put-in : (w : List ℕ) (n : ℕ) (x : Cell) → n < nodes-in w → put w n x ≡ sets w (n * 6) (words x)
 unfolding put
 put-in w n x h =
@@ -113,7 +117,8 @@ module _ (w : List ℕ) (n : ℕ) (x : Cell) where
       (λ h. ap (λ (v : List ℕ). cell-at v k) (put-out w n x h))
       (below-or-not n (nodes-in w))
 
-  put-cell : n < nodes-in w → Put w (put w n x) n (node-of x)
+  -- one node is put, the one that the six words are laid out as
+  pub put-cell : n < nodes-in w → Put w (put w n x) n (node-of x)
   unfolding node-at
   put-cell h =
       let size = put-length in

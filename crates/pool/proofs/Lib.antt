@@ -1,2 +1,3 @@
 pub mod Cells
+pub mod Pinned
 pub mod Standing

@@ -5,8 +5,8 @@
 --     fork        2, left, right, left total, left ones, balance + 2
 use Prim.Native.Nat.{ℕ, zero, suc, _+_, _*_, _/_}
 use mathlib.Core.Path.{_≡_}
-use mathlib.Core.Bool.{Bool, true, false}
-use mathlib.Core.List.{List, [], _∷_}
+use mathlib.Core.Bool.{true, false}
+use mathlib.Core.List.{List}
 use lib.Dec.{ltb}
 use lib.ListN.{length, getD, set}
 use Rattle.bits.specs.declared.leaf.Leaf.{Leaf}
@@ -14,7 +14,6 @@ use Rattle.pool.specs.declared.node.Cell.{Cell}
 use Rattle.pool.specs.declared.node.Fork.{Fork}
 use Rattle.pool.specs.declared.node.Node.{Node}
 use Rattle.pool.specs.declared.node.Node.the-variants.{Free as free, Leaf as leaf, Fork as fork, Broken as broken}
-use Rattle.pool.specs.declared.chain.Chain.{Chain}
 
 -- the words of a node
 abbrev pub node-words : ℕ

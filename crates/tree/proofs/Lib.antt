@@ -1,2 +1,3 @@
 pub mod Down
+pub mod Output
 pub mod Questions

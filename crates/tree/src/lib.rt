@@ -1,11 +1,14 @@
 // The tree in the node words of a pool: asking it, along one path from the root. Its root and its length come in by value; where they are kept
 // is not known here.
 mod query;
+mod writing;
 
 pub use query::Found;
 pub use query::access;
 pub use query::rank;
 pub use query::select;
+pub use writing::values;
+pub use writing::words_for;
 
 // No leaf is more than this many levels down.
 pub const LEVELS: u64 = 12;

@@ -1,6 +1,5 @@
 -- A word is zero or the next of another. Assumes nothing.
 use Prim.Native.Nat.{ℕ, zero, suc}
-use native.Mathlib.Omega.{arith}
 use borrow.Author.Needs.{needs}
 use mathlib.Core.Path.{_≡_, refl}
 use Rattle.pool.specs.Node.{if-zero}

@@ -1,6 +1,5 @@
 -- What is read at one number is put at the other. Assumes nothing.
 use borrow.Author.Needs.{needs}
-use Rattle.pool.specs.Node.{put-node}
 use Rattle.pool.proofs.node.move_node.Statement.{statement}
 use Rattle.pool.proofs.node.move_node.Tie as tie
 

@@ -1,7 +1,7 @@
 -- A number in range has its six words' node. Assumes nothing.
 use native.Mathlib.Omega.{arith}
 use borrow.Author.Needs.{needs}
-use mathlib.Core.Path.{_≡_, sym, ap, _∙_}
+use mathlib.Core.Path.{sym, ap, _∙_}
 use denote.Ref.{now}
 use Rattle.pool.specs.Node.{node-of}
 use Rattle.pool.proofs.Cells.{node-in, node-out}
