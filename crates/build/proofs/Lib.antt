@@ -1,0 +1,10 @@
+pub mod FreeChain
+pub mod Joining
+pub mod LeafMarks
+pub mod OnePool
+pub mod OneRound
+pub mod Pairing
+pub mod Pinned
+pub mod PutLeaves
+pub mod Turns
+pub mod Whole

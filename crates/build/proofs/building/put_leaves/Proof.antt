@@ -1,0 +1,91 @@
+-- Each turn puts one more leaf in front of the row. Assumes nothing.
+use Prim.Native.Nat.{suc, _-_, _≤_}
+use native.Mathlib.Numerals.{add-one}
+use native.Mathlib.Omega.{arith}
+use borrow.Author.Needs.{needs}
+use mathlib.Core.Path.{_≡_, refl}
+use denote.Ref.{now}
+use lib.ListN.{length as count-of, take, length-set}
+use Rattle.model.specs.Word.{marks-of}
+use Rattle.build.specs.Built.{leaf-marks}
+use Rattle.build.proofs.OneRound.{leaf-begins}
+use Rattle.build.proofs.PutLeaves.{Begun, all-begun, none-begun, one-begun}
+use Rattle.build.proofs.building.put_leaves.Statement.{statement}
+use Rattle.build.proofs.building.put_leaves.Tie as tie
+
+abbrev Inv-loop : tie.InvT-loop
+Inv-loop nodes₀ words length leaves items₀ i₀ nodes items i =
+    (i ≤ leaves) × (count-of nodes ≡ count-of nodes₀) × (count-of items ≡ 512) × Begun nodes (take length (marks-of words)) leaves items i
+
+abbrev μ-loop : tie.MeasureT-loop
+μ-loop nodes₀ words length leaves items₀ i₀ nodes items i = leaves - i
+
+nothing-requires : tie.Need-nothing-requires Inv-loop μ-loop
+nothing-requires c κs = search needs
+
+loop-holds : tie.Need-loop-holds Inv-loop μ-loop
+loop-holds c =
+    let a = c .before .before .before .args in
+    (omega arith, refl, refl, none-begun (now (a .nodes)) (take (a .length) (marks-of (now (a .words)))) (a .leaves) _)
+
+put-leaf-requires : tie.Need-put-leaf-requires Inv-loop μ-loop
+put-leaf-requires c κs = let a = c .before .before .before .before .before .before .args in omega (arith, leaf-begins (c .before .before .loop .i) (a .length) (omega arith))
+
+sub-at : tie.Need-sub-at Inv-loop μ-loop
+sub-at c = search needs
+
+sub-at-2 : tie.Need-sub-at-2 Inv-loop μ-loop
+sub-at-2 c = search needs
+
+mul-items : tie.Need-mul-items Inv-loop μ-loop
+mul-items c = search needs
+
+array-set-from-items : tie.Need-array-set-from-items Inv-loop μ-loop
+array-set-from-items c = search needs
+
+add-i : tie.Need-add-i Inv-loop μ-loop
+add-i c = search needs
+
+loop-less : tie.Need-loop-less Inv-loop μ-loop
+loop-less c = search needs
+
+loop-again : tie.Need-loop-again Inv-loop μ-loop
+unfolding leaf-marks
+loop-again c =
+    let s = c .before .before .before .before .before .loop in
+    let a = c .before .before .before .before .before .before .before .before .before .args in
+    let p = c .before .before .put-leaf in
+    let size : count-of (p .last .0) ≡ count-of (s .nodes) = p .kept .0 in
+    let place : a .leaves - 1 - s .i ≡ a .leaves - suc (s .i) = omega arith in (
+      omega arith,
+      omega arith,
+      simp length-set (s .inv .2),
+      rw (place, add-one) (one-begun (p .last .0) (p .result) (s .inv .3) (omega arith) (omega arith) (omega arith) (p .ensures .0) (p .ensures .1)),
+    )
+
+same-length : tie.Need-same-length Inv-loop μ-loop
+same-length c = search needs
+
+returns : tie.Need-returns Inv-loop μ-loop
+returns c =
+    let s = c .before .loop in
+    record { kept = s .inv .1; wait = all-begun (s .inv .3) (omega arith) (omega arith) (s .inv .2) }
+
+pub put-leaves-spec : {M : Type 1} → statement M
+put-leaves-spec =
+    tie.close
+    (tie.spec
+    Inv-loop
+    μ-loop
+    nothing-requires
+    loop-holds
+    put-leaf-requires
+    sub-at
+    sub-at-2
+    mul-items
+    array-set-from-items
+    add-i
+    loop-less
+    loop-again
+    same-length
+    returns)

@@ -1,0 +1,148 @@
+-- Each turn joins one pair more; then the last pair is joined, and an odd tree to it. Assumes nothing.
+use Prim.Native.Nat.{suc, _+_, _-_, _*_, _/_, _≤_}
+use native.Mathlib.Numerals.{add-one}
+use native.Mathlib.Omega.{arith}
+use borrow.Author.Needs.{needs}
+use mathlib.Core.Path.{_≡_, refl}
+use mathlib.Core.List.{List}
+use lib.ListN.{length, length-set}
+use Rattle.model.specs.Tree.{Tree}
+use Rattle.build.specs.Built.{Waiting}
+use Rattle.build.proofs.Pairing.{Part, even-ends, no-pair, odd-ends, odd-small, pair-more, pair-small}
+use Rattle.build.proofs.building.round.Statement.{statement}
+use Rattle.build.proofs.building.round.Tie as tie
+
+abbrev Inv-loop : tie.InvT-loop
+Inv-loop nodes₀ count next items made₀ i₀ nodes made i =
+    (i * 2 + 2 ≤ count) × (length nodes ≡ length nodes₀) × (length made ≡ 512)
+    × ((ts : List Tree) → length ts ≡ count → Waiting nodes₀ next items ts → Part nodes next items made i ts)
+
+abbrev μ-loop : tie.MeasureT-loop
+μ-loop nodes₀ count next items made₀ i₀ nodes made i = count - i
+
+-- ---- a turn
+
+loop-holds : tie.Need-loop-holds Inv-loop μ-loop
+loop-holds c = let p = c .before .pre .1 in (omega arith, refl, p .wait .room, λ ts e b. no-pair b)
+
+joined-requires : tie.Need-joined-requires Inv-loop μ-loop
+joined-requires c κs =
+    let s = c .before .before .before .before .loop in
+    let p = c .before .before .before .before .before .before .pre .1 in
+    pair-small (s .inv .3 (p .these) (p .many) (p .wait)) (omega (arith, p .many))
+
+loop-again : tie.Need-loop-again Inv-loop μ-loop
+loop-again c =
+    let s = c .before .before .before .before .before .before .before .loop in
+    let t = c .before .before .before .before .before .before .before .before .before in
+    let a = t .args in
+    let j = c .before .before .joined in
+    let items = a .t2 in
+    let size : length (j .last .0) ≡ length (s .nodes) = j .kept .0 in
+    let room = s .inv .2 in (
+      omega arith,
+      omega arith,
+      simp length-set room,
+      λ ts e b.
+          rw add-one
+          (pair-more (s .nodes) (j .last .0) (a .next) items (s .made) (s .i) ts (j .result) (s .inv .3 ts e b) (omega arith) (omega arith) (omega arith) (j .ensures .1) (j .ensures .0)),
+    )
+
+-- ---- the last pair
+
+joined-requires-2 : tie.Need-joined-requires-2 Inv-loop μ-loop
+joined-requires-2 c κs =
+    let s = c .before .before .before .before .loop in
+    let p = c .before .before .before .before .before .before .pre .1 in
+    pair-small (s .inv .3 (p .these) (p .many) (p .wait)) (omega (arith, p .many))
+
+returns : tie.Need-returns Inv-loop μ-loop
+returns c =
+    let s = c .before .before .before .before .before .before .before .before .loop in
+    let a = c .before .before .before .before .before .before .before .before .before .before .args in
+    let j = c .before .before .before .joined2 in
+    let size : length (j .last .0) ≡ length (s .nodes) = j .kept .0 in
+    let room = s .inv .2 in
+    let kept = s .inv .1 in
+    record {
+      kept = omega arith;
+      done = λ ts e b.
+          let last : a .next + (a .count - a .count / 2) ≡ suc (a .next + s .i) = omega arith in
+          rw last
+          (even-ends (s .nodes) (j .last .0) (j .last .0) (a .next) (a .t2) (s .made) (s .i) ts (j .result) (j .result)
+          b (s .inv .3 ts e b) (omega arith) (omega arith) room (omega arith) (j .ensures .1) (j .ensures .0));
+    }
+
+-- ---- an odd tree
+
+joined-requires-3 : tie.Need-joined-requires-3 Inv-loop μ-loop
+joined-requires-3 c κs =
+    let s = c .before .before .before .before .before .before .before .before .before .before .loop in
+    let p = c .before .before .before .before .before .before .before .before .before .before .before .before .pre .1 in
+    let j = c .before .before .before .before .before .joined2 in
+    odd-small (s .inv .3 (p .these) (p .many) (p .wait)) (j .result) (omega (arith, p .many)) (j .ensures .0)
+
+returns-2 : tie.Need-returns-2 Inv-loop μ-loop
+returns-2 c =
+    let s = c .before .before .before .before .before .before .before .before .before .before .before .before .before .loop in
+    let a = c .before .before .before .before .before .before .before .before .before .before .before .before .before .before .before .args in
+    let j = c .before .before .before .before .before .before .before .before .joined2 in
+    let k = c .before .before .joined3 in
+    let size : length (j .last .0) ≡ length (s .nodes) = j .kept .0 in
+    let again : length (k .last .0) ≡ length (j .last .0) = k .kept .0 in
+    let room = s .inv .2 in
+    let kept = s .inv .1 in
+    let fits = c .before .before .before .before .before .before .before .before .before .before .before .before .before .before .before .pre .1 .enough in
+    record {
+      kept = omega arith;
+      done = λ ts e b.
+          let last : a .next + (a .count - a .count / 2) ≡ suc (suc (a .next + s .i)) = omega arith in
+          rw last
+          (odd-ends (s .nodes) (j .last .0) (k .last .0) (a .next) (a .t2) (s .made) (s .i) ts (j .result) (k .result)
+          b (s .inv .3 ts e b) (omega arith) (omega arith) room (omega arith) (j .ensures .1) (j .ensures .0) (rw add-one at (k .ensures .1)) (rw add-one at (k .ensures .0)));
+    }
+
+pub round-spec : {M : Type 1} → statement M
+round-spec =
+    tie.close
+    (tie.spec
+    Inv-loop
+    μ-loop
+    loop-holds
+    (λ c. search needs)
+    (λ c. search needs)
+    (λ c. search needs)
+    (λ c. search needs)
+    (λ c. search needs)
+    (λ c. search needs)
+    (λ c. search needs)
+    (λ c. search needs)
+    (λ c. search needs)
+    joined-requires
+    (λ c. search needs)
+    (λ c. search needs)
+    (λ c. search needs)
+    (λ c. search needs)
+    loop-again
+    (λ c. search needs)
+    (λ c. search needs)
+    (λ c. search needs)
+    (λ c. search needs)
+    (λ c. search needs)
+    (λ c. search needs)
+    (λ c. search needs)
+    joined-requires-2
+    (λ c. search needs)
+    (λ c. search needs)
+    (λ c. search needs)
+    returns
+    (λ c. search needs)
+    (λ c. search needs)
+    (λ c. search needs)
+    (λ c. search needs)
+    (λ c. search needs)
+    joined-requires-3
+    (λ c. search needs)
+    (λ c. search needs)
+    (λ c. search needs)
+    returns-2)

@@ -1,0 +1,52 @@
+-- What an answer says where the fact holds, and where it does not.
+use Prim.Native.Nat.{ℕ}
+use native.Mathlib.Omega.{arith}
+use mathlib.Core.Path.{_≡_, refl}
+use mathlib.Core.Bool.{Bool, true, false}
+use borrow.Author.Tests.{eqb-true, eq-eqb}
+use lib.Dec.{eqb}
+use Rattle.bits.specs.declared.leaf.Leaf.{Leaf}
+use Rattle.pool.specs.declared.node.Fork.{Fork}
+use Rattle.pool.specs.declared.node.Node.the-variants.{Free as free, Leaf as leaf, Fork as fork, Broken as bad}
+use Rattle.sound.specs.Part.{Says, Answered}
+use Rattle.sound.specs.declared.visit.Found.{Found}
+use Rattle.sound.specs.declared.visit.Seen.{Seen}
+use Rattle.sound.specs.declared.visit.Seen.the-variants.{Sound as sound, Broken as broken}
+
+-- no answer is both
+pub never : {A : Type 0} {b : Bool} → b ≡ true → b ≡ false → A
+never p q = let z : _≡_ {A = ℕ} 0 1 = cc in absurd (omega arith)
+
+pub unseen : {A : Type 0} {f : Found} {r : Seen} → r ≡ sound f → r ≡ broken → A
+unseen p q = let z : _≡_ {A = ℕ} 0 1 = cc in absurd (omega arith)
+
+pub same-found : {f g : Found} {r : Seen} → r ≡ sound f → r ≡ sound g → f ≡ g
+same-found p q = cc
+
+module _ {P : Type 0} where
+  pub says-yes : P → Says P true
+  says-yes p = record { yes = λ _. p; no = λ _. refl }
+
+  pub says-no : (P → ⊥) → Says P false
+  says-no n = record { yes = λ e. never e refl; no = λ p. absurd (n p) }
+
+  -- two numbers are compared
+  pub says-same : (m n : ℕ) → (m ≡ n → P) → (P → m ≡ n) → Says P (eqb m n)
+  says-same m n p q = record { yes = λ e. p (eqb-true m n e); no = λ h. eq-eqb m n (q h) }
+
+  pub answered-yes : {f : Found} → P → Answered P f (sound f)
+  answered-yes {f} p = record { yes = λ g e. (p, same-found e refl); no = λ _. refl }
+
+  pub answered-no : {f : Found} → (P → ⊥) → Answered P f broken
+  answered-no n = record { yes = λ g e. unseen e refl; no = λ p. absurd (n p) }
+
+-- ---- no node is of two kinds
+
+pub no-leaf : {A : Type 0} {x : Leaf} {k : ℕ} → leaf x ≡ free k → A
+no-leaf e = let z : _≡_ {A = ℕ} 0 1 = cc in absurd (omega arith)
+
+pub no-fork : {A : Type 0} {f : Fork} {k : ℕ} → fork f ≡ free k → A
+no-fork e = let z : _≡_ {A = ℕ} 0 1 = cc in absurd (omega arith)
+
+pub no-broken : {A : Type 0} {k : ℕ} → bad ≡ free k → A
+no-broken e = let z : _≡_ {A = ℕ} 0 1 = cc in absurd (omega arith)

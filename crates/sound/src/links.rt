@@ -1,0 +1,30 @@
+// Whether a chain of free nodes stands in some node words.
+use crate::met::meet;
+use pool::Chain;
+use pool::Node;
+use pool::node_at;
+use pool::node_count;
+ghost use Rattle.pool.specs.Node.{nodes-in};
+ghost use Rattle.sound.specs.Judged.{Linked};
+ghost use Rattle.sound.specs.Part.{Says};
+
+// Whether the chain has so many free nodes, none of them met before, and then ends.
+pub fn chain_sound(nodes: &[u64], met: &mut [u64], chain: Chain) -> bool
+    ensures { λ r. ⌜ Says (Linked (now (nodes .entry)) (nodes-in (now (nodes .entry))) (now (met .entry)) (chain .first) (chain .count)) r ⌝ }
+{
+    let mut n = chain.first;
+    let mut left = chain.count;
+    while left > 0 {
+        if !meet(met, n) {
+            return false;
+        }
+        match node_at(nodes, n) {
+            Node::Free(next) => n = next,
+            Node::Leaf(_) => return false,
+            Node::Fork(_) => return false,
+            Node::Broken => return false,
+        }
+        left -= 1;
+    }
+    n == node_count(nodes)
+}

@@ -1,0 +1,21 @@
+// Which nodes have been met: a bit for each node, 64 to a word.
+ghost use Rattle.sound.specs.Met.{Meets};
+
+// The bits of a word.
+const WORD_BITS: u64 = 64;
+
+// Marks node n as met, and says whether it was not before. A number for which there is no bit counts as met.
+pub fn meet(met: &mut [u64], n: u64) -> bool
+    ensures { λ r. ⌜ Meets (now (met .entry)) (now (met .exit)) n r ⌝ }
+{
+    let at = (n / WORD_BITS) as usize;
+    if at < met.len() {
+        let word = met[at];
+        let bit = n % WORD_BITS;
+        if (word >> bit) % 2 == 0 {
+            met[at] = word | (1 << bit);
+            return true;
+        }
+    }
+    false
+}
