@@ -2,7 +2,7 @@
 use Prim.Native.Nat.{ℕ, zero, suc, _+_, _-_, _*_, _≤_}
 use mathlib.Core.Path.{_≡_}
 use mathlib.Core.Bool.{true}
-use mathlib.Core.List.{List, [], _∷_}
+use mathlib.Core.List.{List, [], _∷_, List·Memᴰ}
 use lib.ListN.{length}
 use Rattle.model.specs.Marks.{count}
 use Rattle.model.specs.Pool.{Pool}
@@ -52,3 +52,9 @@ pub record Rooted (w : List ℕ) (n levels : ℕ) (t : Tree) : Type 0 where
   pub holds : Holds w t
   pub deep : height t ≤ levels
   pub sized : Sized 0 t
+
+-- w′ is w with a tree put in it: the tree stands in w′, and every node but those of ns is as it was
+pub record Edited (w w′ : List ℕ) (ns : List ℕ) (t : Tree) : Type 0 where
+  pub size : length w′ ≡ length w
+  pub holds : Holds w′ t
+  pub else : (k : ℕ) → (List·Memᴰ k ns → ⊥) → node-at w′ k ≡ node-at w k
