@@ -8,7 +8,9 @@ use Rattle.model.specs.Pool as Pool
 use Rattle.model.specs.Pool.{Pool}
 use Rattle.model.specs.Tree.{marks, size}
 use Rattle.model.specs.Word.{marks-of, words-of, words-for}
-use Rattle.window.specs.Layout.{Counted, Stands, WellFormed}
+use Rattle.window.specs.Layout.{Counted, Stands, WellFormed, trailer-in}
+use Rattle.window.specs.declared.calls.Judgement.{Judgement}
+use Rattle.window.specs.declared.calls.Judgement.the-variants.{Stands as Stands′, Damaged as Damaged′}
 use Rattle.window.specs.declared.answer.Answer.{Answer}
 use Rattle.window.specs.declared.answer.Answer.the-variants.{Done, Full, WrongSize, NotSound, ShortOutput, TooLong}
 
@@ -21,6 +23,16 @@ pub record Damaged (ws : List ℕ) : Type 0 where
   pub count : (n : ℕ) × Counted ws n
   pub none : WellFormed ws → ⊥
 
+-- how many nodes a pool of these words has, and 0 where none has so many words
+pub record Measures (ws : List ℕ) (r : ℕ) : Type 0 where
+  pub yes : 1 ≤ r → Counted ws r
+  pub no : r ≡ 0 → NoPool ws
+
+-- a pool of n nodes stands in these words, and its trailer is told, or none does
+abbrev pub Judges : List ℕ → ℕ → Judgement → Type 0
+Judges ws n (Stands′ t) = (p : Pool) × Stands ws n p × (t ≡ trailer-in (drop (n * 6) ws))
+Judges ws n Damaged′ = WellFormed ws → ⊥
+
 -- ---- check: its tests are 6, 7
 
 pub record Checked (ws : List ℕ) (r : Answer) : Type 0 where
@@ -31,7 +43,7 @@ pub record Checked (ws : List ℕ) (r : Answer) : Type 0 where
 -- ---- build: its tests are 6, 10, 4
 
 -- ws and ws′ are the pool's words before and after
-pub record Built (ws : List ℕ) (words : List ℕ) (len : ℕ) (r : Answer) (ws′ : List ℕ) : Type 0 where
+pub record BuildsTo (ws : List ℕ) (words : List ℕ) (len : ℕ) (r : Answer) (ws′ : List ℕ) : Type 0 where
   pub no-pool : NoPool ws → (r ≡ WrongSize) × (ws′ ≡ ws)
   pub too-long : (n : ℕ) → Counted ws n → 64 * length words < len → (r ≡ TooLong) × (ws′ ≡ ws)
   pub full : (n : ℕ) → Counted ws n → len ≤ 64 * length words → Pool.build n (take len (marks-of words)) ≡ none → (r ≡ Full) × (ws′ ≡ ws)

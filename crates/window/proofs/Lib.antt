@@ -1,0 +1,2 @@
+pub mod OneState
+pub mod Verdicts
