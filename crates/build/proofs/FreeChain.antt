@@ -10,7 +10,7 @@ use Rattle.pool.specs.Layout.{Chained, first-of}
 use Rattle.pool.specs.Node.{Put, free-cell, node-at, nodes-in, put}
 use Rattle.pool.specs.declared.node.Node.the-variants as Node
 use Rattle.pool.proofs.Cells.{put-free}
-use Rattle.build.specs.Built.{Kept}
+use Rattle.build.specs.Waiting.{Kept}
 
 -- the chain's first number is where it starts, and the end where it is empty
 pub first-from : (end n k : ℕ) → n + k ≡ end → first-of end (numbers-from n k) ≡ n

@@ -15,7 +15,7 @@ use Rattle.pool.specs.Node.{Put}
 use Rattle.pool.specs.declared.node.Fork.{Fork}
 use Rattle.pool.specs.declared.node.Node.the-variants as Node
 use Rattle.pool.proofs.Standing.{holds-same}
-use Rattle.build.specs.Built.{Kept, Row, Summed, fork-over, item-over, leaf-item, nothing}
+use Rattle.build.specs.Waiting.{Kept, Row, Summed, fork-over, item-over, leaf-item, nothing}
 use Rattle.build.specs.declared.building.Item.{Item}
 
 -- ---- what is kept

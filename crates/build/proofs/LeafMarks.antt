@@ -13,7 +13,7 @@ use Rattle.model.proofs.Words.{bits-length, bits-zero}
 use Rattle.bits.specs.Leaf.{leaf-of, bits-of, packed}
 use Rattle.bits.specs.declared.leaf.Leaf.{Leaf}
 use Rattle.bits.proofs.Held.{leaf-padded, rank-held}
-use Rattle.build.specs.Built.{leaf-marks}
+use Rattle.build.specs.Waiting.{leaf-marks}
 
 -- ---- the marks of words
 

@@ -8,7 +8,7 @@ use mathlib.Core.List.{List, [], _∷_, reverseAux}
 use lib.ListN.{length, take, drop, length-take}
 use Rattle.model.specs.Tree.{Tree, leaf, fork, size, height}
 use Rattle.model.specs.Build.{leaf-built, leaf-count, built-leaves, foremost, round, rounds}
-use Rattle.build.specs.Built.{Level, all-size}
+use Rattle.build.specs.Waiting.{Level, all-size}
 
 -- ---- one round
 

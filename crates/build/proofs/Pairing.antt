@@ -14,10 +14,10 @@ use Rattle.model.specs.Build.{round}
 use Rattle.model.specs.Tree.{Tree, fork, marks, size, height}
 use Rattle.model.proofs.Content.{size-marks}
 use Rattle.model.proofs.Counting.{count-both}
-use Rattle.pool.specs.Node.{Put, fork-cell, nodes-in, put}
+use Rattle.pool.specs.Node.{Put, nodes-in}
 use Rattle.pool.specs.declared.node.Node.the-variants as Node
 use Rattle.pool.proofs.Cells.{put-fork}
-use Rattle.build.specs.Built.{Kept, Level, Row, Small, Summed, Waiting, all-size, fork-over, item-over, nothing}
+use Rattle.build.specs.Waiting.{Forked, Kept, Level, Row, Small, Summed, Waiting, all-size, fork-over, item-over, nothing}
 use Rattle.build.specs.declared.building.Item.{Item}
 use Rattle.build.proofs.Joining.{fork-summed, kept-kept, put-kept, row-kept, summed-kept}
 use Rattle.build.proofs.OneRound.{round-halves, round-level, round-size}
@@ -48,11 +48,10 @@ pub record Joined (w w′ : List ℕ) (n : ℕ) (l r : Tree) (x : Item) : Type 0
   pub kept : Kept w w′ n
   pub made : Summed w′ (suc n) (fork n l r) x
 
-pub join : {w : List ℕ} {n : ℕ} (w′ : List ℕ) (l r : Tree) (a b x : Item) → Summed w n l a → Summed w n r b → n < nodes-in w
-    → w′ ≡ put w n (fork-cell (fork-over a b)) → x ≡ item-over n a b → Joined w w′ n l r x
-join {w} {n} w′ l r a b x p q h e f =
-    let stored : Put w w′ n (Node.Fork (fork-over a b)) = rw e (put-fork w n (fork-over a b) h) in
-    record { size = stored .size; kept = put-kept stored; made = rw f (fork-summed n l r a b stored p q) }
+pub join : {w w′ : List ℕ} {n : ℕ} (l r : Tree) {a b x : Item} → Summed w n l a → Summed w n r b → n < nodes-in w → Forked w w′ n a b x → Joined w w′ n l r x
+join {w} {w′} {n} l r {a} {b} p q h f =
+    let put : Put w w′ n (Node.Fork (fork-over a b)) = rw (f .stored) (put-fork w n (fork-over a b) h) in
+    record { size = put .size; kept = put-kept put; made = rw (f .item) (fork-summed n l r a b put p q) }
 
 -- ---- the forks made, the last one first
 
@@ -81,61 +80,94 @@ second-high : (h : ℕ) (t : Tree) (more : List Tree) → Level h (t ∷ more) �
 second-high h t [] p = p
 second-high h t (u ∷ more) p = omega arith
 
--- i pairs of the trees ts joined
-pub record Part (w : List ℕ) (next : ℕ) (items made : List Item) (i : ℕ) (ts : List Tree) : Type 0 where
-  pub done : List Tree
-  pub rest : List Tree
+-- i pairs of the trees ts joined: the forks made, the last one first, and the trees that still wait
+pub record Part (w : List ℕ) (next : ℕ) (items made : List Item) (i : ℕ) (ts done rest : List Tree) : Type 0 where
   pub whole : reverseAux done (round (next + i) rest) ≡ round next ts
   pub many : length done ≡ i
   pub left : length rest + i * 2 ≡ length ts
-  pub made-row : Made w (next + i) made done
+  pub new : Made w (next + i) made done
   pub row : Row w (next + i) items (i * 2) rest
   pub high : ℕ
   pub level : Level high rest
   pub low : high ≤ 1024
   pub few : all-size rest ≤ 2 ^ 16
 
-pub no-pair : {w : List ℕ} {next : ℕ} {items : List Item} {ts : List Tree} → Waiting w next items ts → Part w next items items 0 ts
-no-pair {w} {next} {items} {ts} p =
+abbrev pub Parted : List ℕ → ℕ → List Item → List Item → ℕ → List Tree → Type 0
+Parted w next items made i ts = (done : List Tree) × (rest : List Tree) × Part w next items made i ts done rest
+
+pub no-pair : {w : List ℕ} {next : ℕ} {items : List Item} {ts : List Tree} → Waiting w next items ts → Parted w next items items 0 ts
+no-pair {next = next} {ts = ts} p = (
+  [],
+  ts,
+  record {
+    whole = ap (λ (n : ℕ). round n ts) (add-zero next);
+    many = refl;
+    left = omega arith;
+    new = tt;
+    row = rw add-zero (p .row);
+    high = p .high;
+    level = p .level;
+    low = omega (arith, p .low);
+    few = p .few;
+  },
+)
+
+-- the last tree made, and all before it, wait for the next round
+ended : {before w : List ℕ} {next m : ℕ} {items : List Item} {ts : List Tree} (made : List Item) (done : List Tree) (last : Tree)
+    → Waiting before next items ts → 2 ≤ length ts → length made ≡ 512
+    → reverseAux done (last ∷ []) ≡ round next ts → Made w m made done → Summed w m last (getD made (length done) nothing) → Waiting w m made (round next ts)
+ended {w = w} {next = next} {m = m} {ts = ts} made done last b some room e new s =
+    let half = round-halves next ts some in
     record {
-      done = [];
-      rest = ts;
-      whole = ap (λ (n : ℕ). round n ts) (add-zero next);
-      many = refl;
-      left = omega arith;
-      made-row = tt;
-      row = rw add-zero (p .row);
-      high = p .high;
-      level = p .level;
-      low = omega (arith, p .low);
-      few = p .few;
+      room = room;
+      row = rw (← e) (made-row w m made done (last ∷ []) new (s, tt));
+      high = suc (b .high);
+      level = round-level next (b .high) ts some (b .level);
+      low = omega (arith, b .low);
+      few = omega (arith, b .few, round-size next ts);
     }
 
--- the next pair is small enough to be joined
-module _ (w : List ℕ) (n : ℕ) (items : List Item) (at h : ℕ) (low : h ≤ 1024) where
-  row-pair : (rest : List Tree) → 2 ≤ length rest → Row w n items at rest → Level h rest → all-size rest ≤ 2 ^ 16 → Small (getD items (at + 1) nothing) (getD items at nothing)
+-- the next pair, and the tree beside it
+abbrev right : List Item → ℕ → Item
+right items i = getD items (i * 2) nothing
+
+abbrev left : List Item → ℕ → Item
+left items i = getD items (i * 2 + 1) nothing
+
+abbrev odd : List Item → ℕ → Item
+odd items i = getD items (i * 2 + 2) nothing
+
+module _ {w : List ℕ} {next : ℕ} {items made : List Item} {i : ℕ} {ts : List Tree} where
+  -- the next pair is small enough to be joined
+  pub pair-small : (done rest : List Tree) → Part w next items made i ts done rest → i * 2 + 2 ≤ length ts → Small (left items i) (right items i)
   unfolding all-size
-  row-pair [] some row level few = absurd (omega arith)
-  row-pair (t ∷ []) some row level few = absurd (omega arith)
-  row-pair (r ∷ l ∷ more) some row level few =
-      let high = second-high h l more (level .1) in
-      rw add-one (both-small l r (row .1 .0) (row .0) (omega arith) (omega arith) (omega arith) (omega arith))
+  pair-small done [] p h = absurd (omega arith)
+  pair-small done (t ∷ []) p h = absurd (omega arith)
+  pair-small done (r ∷ l ∷ more) p h =
+      let few = p .few in
+      let low = p .low in
+      let even = p .level .0 in
+      let high = second-high (p .high) l more (p .level .1) in
+      rw add-one (both-small l r (p .row .1 .0) (p .row .0) (omega arith) (omega arith) (omega arith) (omega arith))
 
   -- and so is an odd tree with the fork of that pair
-  row-odd : (rest : List Tree) → length rest ≡ 3 → Row w n items at rest → Level h rest → all-size rest ≤ 2 ^ 16
-      → Small (getD items (at + 2) nothing) (item-over n (getD items (at + 1) nothing) (getD items at nothing))
+  pub odd-small : (x : Item) (done rest : List Tree) → Part w next items made i ts done rest → i * 2 + 3 ≡ length ts
+      → x ≡ item-over (next + i) (left items i) (right items i) → Small (odd items i) x
   unfolding all-size
-  row-odd [] e row level few = absurd (omega arith)
-  row-odd (t ∷ []) e row level few = absurd (omega arith)
-  row-odd (t ∷ u ∷ []) e row level few = absurd (omega arith)
-  row-odd (r ∷ l ∷ odd ∷ []) e row level few =
+  odd-small x done [] p h e = absurd (omega arith)
+  odd-small x done (t ∷ []) p h e = absurd (omega arith)
+  odd-small x done (t ∷ u ∷ []) p h e = absurd (omega arith)
+  odd-small x done (r ∷ l ∷ o ∷ []) p h e =
       let sr = strikes-most r in
       let sl = strikes-most l in
-      let so = strikes-most odd in
-      let a = row .0 in
-      let b = row .1 .0 in
-      let c = row .1 .1 .0 in
-      rw (add-one, add-two)
+      let so = strikes-most o in
+      let a = p .row .0 in
+      let b = p .row .1 .0 in
+      let c = p .row .1 .1 .0 in
+      let few = p .few in
+      let low = p .low in
+      let level = p .level in
+      rw (e, add-one, add-two)
       (record {
         even = omega (arith, a .levels, b .levels, c .levels);
         left = omega (arith, a .levels, b .levels, c .levels);
@@ -143,124 +175,69 @@ module _ (w : List ℕ) (n : ℕ) (items : List Item) (at h : ℕ) (low : h ≤ 
         totals = omega (arith, a .total, b .total, c .total);
         strikes = omega (arith, a .ones, b .ones, c .ones);
       })
-  row-odd (r ∷ l ∷ odd ∷ t ∷ more) e row level few = absurd (omega arith)
+  odd-small x done (r ∷ l ∷ o ∷ t ∷ more) p h e = absurd (omega arith)
 
-module _ {w : List ℕ} {next : ℕ} {items made : List Item} {i : ℕ} {ts : List Tree} (p : Part w next items made i ts) where
-  pub pair-small : i * 2 + 2 ≤ length ts → Small (getD items (i * 2 + 1) nothing) (getD items (i * 2) nothing)
-  pair-small h = row-pair w (next + i) items (i * 2) (p .high) (p .low) (p .rest) (omega (arith, p .left)) (p .row) (p .level) (p .few)
-
-  pub odd-small : (x : Item) → i * 2 + 3 ≡ length ts → x ≡ item-over (next + i) (getD items (i * 2 + 1) nothing) (getD items (i * 2) nothing) → Small (getD items (i * 2 + 2) nothing) x
-  odd-small x h e = rw e (row-odd w (next + i) items (i * 2) (p .high) (p .low) (p .rest) (omega (arith, p .left)) (p .row) (p .level) (p .few))
-
--- ---- one pair more
-
-module _ (w w′ : List ℕ) (next : ℕ) (items made : List Item) (i : ℕ) (ts : List Tree) (x : Item) where
-  pair-on : (done rest : List Tree) (h : ℕ) → reverseAux done (round (next + i) rest) ≡ round next ts → length done ≡ i → length rest + i * 2 ≡ length ts
-      → Made w (next + i) made done → Row w (next + i) items (i * 2) rest → Level h rest → h ≤ 1024 → all-size rest ≤ 2 ^ 16
-      → 4 ≤ length rest → i < length made → next + i < nodes-in w
-      → w′ ≡ put w (next + i) (fork-cell (fork-over (getD items (i * 2 + 1) nothing) (getD items (i * 2) nothing)))
-      → x ≡ item-over (next + i) (getD items (i * 2 + 1) nothing) (getD items (i * 2) nothing)
-      → Part w′ next items (set made i x) (suc i) ts
+  -- one pair more, where four trees or more are left
+  pub pair-more : {w′ : List ℕ} {x : Item} (done rest : List Tree) → Part w next items made i ts done rest → i * 2 + 3 < length ts → i < length made
+      → next + i < nodes-in w → Forked w w′ (next + i) (left items i) (right items i) x → Parted w′ next items (set made i x) (suc i) ts
   unfolding round all-size
-  pair-on done [] h whole many left mades row level low few four room fits e f = absurd (omega arith)
-  pair-on done (r ∷ []) h whole many left mades row level low few four room fits e f = absurd (omega arith)
-  pair-on done (r ∷ l ∷ []) h whole many left mades row level low few four room fits e f = absurd (omega arith)
-  pair-on done (r ∷ l ∷ s ∷ []) h whole many left mades row level low few four room fits e f = absurd (omega arith)
-  pair-on done (r ∷ l ∷ s ∷ t ∷ more) h whole many left mades row level low few four room fits e f =
-      let j = join w′ l r (getD items (suc (i * 2)) nothing) (getD items (i * 2) nothing) x (row .1 .0) (row .0) fits (rw add-one at e) (rw add-one at f) in
-      let n : next + suc i ≡ suc (next + i) = omega arith in
-      let at : suc i * 2 ≡ suc (suc (i * 2)) = omega arith in
-      record {
-        done = fork (next + i) l r ∷ done;
-        rest = s ∷ t ∷ more;
-        whole = rw n whole;
-        many = ap suc many;
-        left = omega arith;
-        made-row = rw (n, many) (
-          rw (getD-set-same made i x nothing room) (j .made),
-          made-kept w w′ (next + i) (suc (next + i)) (j .kept) (omega arith) made i x done (omega arith) mades,
-        );
-        row = rw (n, at) (row-kept w w′ (next + i) (suc (next + i)) (j .kept) (omega arith) items (suc (suc (i * 2))) (s ∷ t ∷ more) (row .1 .1));
-        high = h;
-        level = level .1 .1;
-        low = low;
-        few = omega arith;
-      }
-
-  pub pair-more : Part w next items made i ts → i * 2 + 3 < length ts → i < length made → next + i < nodes-in w
-      → w′ ≡ put w (next + i) (fork-cell (fork-over (getD items (i * 2 + 1) nothing) (getD items (i * 2) nothing)))
-      → x ≡ item-over (next + i) (getD items (i * 2 + 1) nothing) (getD items (i * 2) nothing)
-      → Part w′ next items (set made i x) (suc i) ts
-  pair-more p four = pair-on (p .done) (p .rest) (p .high) (p .whole) (p .many) (p .left) (p .made-row) (p .row) (p .level) (p .low) (p .few) (omega (arith, p .left))
-
--- ---- the end of a round
-
--- the last tree made, and all before it, wait for the next round
-ended : {w : List ℕ} {next : ℕ} {items : List Item} {ts : List Tree} (w′ : List ℕ) (m : ℕ) (made : List Item) (done : List Tree) (last : Tree)
-    → Waiting w next items ts → 2 ≤ length ts → length made ≡ 512
-    → reverseAux done (last ∷ []) ≡ round next ts → Made w′ m made done → Summed w′ m last (getD made (length done) nothing) → Waiting w′ m made (round next ts)
-ended {next = next} {ts = ts} w′ m made done last p some room e mades s =
-    let half = round-halves next ts some in
-    record {
-      room = room;
-      row = rw (← e) (made-row w′ m made done (last ∷ []) mades (s, tt));
-      high = suc (p .high);
-      level = round-level next (p .high) ts some (p .level);
-      low = omega (arith, p .low);
-      few = omega (arith, p .few, round-size next ts);
-    }
-
-module _ (w w′ w″ : List ℕ) (next : ℕ) (items made : List Item) (i : ℕ) (ts : List Tree) (x y : Item) where
-  -- an even number of trees: the last pair is the last fork
-  even-on : {before : List ℕ} (done rest : List Tree) → Waiting before next items ts → reverseAux done (round (next + i) rest) ≡ round next ts → length done ≡ i → length rest + i * 2 ≡ length ts
-      → Made w (next + i) made done → Row w (next + i) items (i * 2) rest
-      → length rest ≡ 2 → i < length made → length made ≡ 512 → next + i < nodes-in w
-      → w′ ≡ put w (next + i) (fork-cell (fork-over (getD items (i * 2 + 1) nothing) (getD items (i * 2) nothing)))
-      → x ≡ item-over (next + i) (getD items (i * 2 + 1) nothing) (getD items (i * 2) nothing)
-      → Waiting w′ (suc (next + i)) (set made i x) (round next ts)
-  unfolding round
-  even-on done [] p whole many left mades row two room all fits e f = absurd (omega arith)
-  even-on done (r ∷ []) p whole many left mades row two room all fits e f = absurd (omega arith)
-  even-on done (r ∷ l ∷ []) p whole many left mades row two room all fits e f =
-      let j = join w′ l r (getD items (suc (i * 2)) nothing) (getD items (i * 2) nothing) x (row .1 .0) (row .0) fits (rw add-one at e) (rw add-one at f) in
-      ended w′ (suc (next + i)) (set made i x) done (fork (next + i) l r) p (omega arith) (simp length-set all) whole
-      (made-kept w w′ (next + i) (suc (next + i)) (j .kept) (omega arith) made i x done (omega arith) mades)
-      (rw (many, getD-set-same made i x nothing room) (j .made))
-  even-on done (r ∷ l ∷ s ∷ more) p whole many left mades row two room all fits e f = absurd (omega arith)
-
-  -- an odd number: the odd tree joins the last pair
-  odd-on : {before : List ℕ} (done rest : List Tree) → Waiting before next items ts → reverseAux done (round (next + i) rest) ≡ round next ts → length done ≡ i → length rest + i * 2 ≡ length ts
-      → Made w (next + i) made done → Row w (next + i) items (i * 2) rest
-      → length rest ≡ 3 → i < length made → length made ≡ 512 → suc (next + i) < nodes-in w
-      → w′ ≡ put w (next + i) (fork-cell (fork-over (getD items (i * 2 + 1) nothing) (getD items (i * 2) nothing)))
-      → x ≡ item-over (next + i) (getD items (i * 2 + 1) nothing) (getD items (i * 2) nothing)
-      → w″ ≡ put w′ (suc (next + i)) (fork-cell (fork-over (getD items (i * 2 + 2) nothing) x))
-      → y ≡ item-over (suc (next + i)) (getD items (i * 2 + 2) nothing) x
-      → Waiting w″ (suc (suc (next + i))) (set made i y) (round next ts)
-  unfolding round
-  odd-on done [] p whole many left mades row three room all fits e f e′ f′ = absurd (omega arith)
-  odd-on done (r ∷ []) p whole many left mades row three room all fits e f e′ f′ = absurd (omega arith)
-  odd-on done (r ∷ l ∷ []) p whole many left mades row three room all fits e f e′ f′ = absurd (omega arith)
-  odd-on done (r ∷ l ∷ odd ∷ []) p whole many left mades row three room all fits e f e′ f′ =
+  pair-more done [] p four room fits f = absurd (omega arith)
+  pair-more done (r ∷ []) p four room fits f = absurd (omega arith)
+  pair-more done (r ∷ l ∷ []) p four room fits f = absurd (omega arith)
+  pair-more done (r ∷ l ∷ s ∷ []) p four room fits f = absurd (omega arith)
+  pair-more {w′} {x} done (r ∷ l ∷ s ∷ t ∷ more) p four room fits f =
       let n : ℕ = next + i in
-      let j = join w′ l r (getD items (suc (i * 2)) nothing) (getD items (i * 2) nothing) x (row .1 .0) (row .0) (omega arith) (rw add-one at e) (rw add-one at f) in
-      let waits = summed-kept w w′ n (suc n) (j .kept) (omega arith) (row .1 .1 .0) in
-      let k = join w″ odd (fork n l r) (getD items (suc (suc (i * 2))) nothing) x y waits (j .made) (omega (arith, j .size)) (rw add-two at e′) (rw add-two at f′) in
-      ended w″ (suc (suc n)) (set made i y) done (fork (suc n) odd (fork n l r)) p (omega arith) (simp length-set all) whole
-      (made-kept w w″ n (suc (suc n)) (kept-kept w w′ w″ n (suc n) (omega arith) (j .kept) (k .kept)) (omega arith) made i y done (omega arith) mades)
-      (rw (many, getD-set-same made i y nothing room) (k .made))
-  odd-on done (r ∷ l ∷ odd ∷ t ∷ more) p whole many left mades row three room all fits e f e′ f′ = absurd (omega arith)
+      let j = join l r (p .row .1 .0) (p .row .0) fits (rw add-one at f) in
+      let many = p .many in
+      let next-is : next + suc i ≡ suc n = omega arith in
+      let at : suc i * 2 ≡ suc (suc (i * 2)) = omega arith in (
+        fork n l r ∷ done,
+        s ∷ t ∷ more,
+        record {
+          whole = rw next-is (p .whole);
+          many = ap suc many;
+          left = omega (arith, p .left);
+          new = rw (next-is, many)
+              (rw (getD-set-same made i x nothing room) (j .made), made-kept w w′ n (suc n) (j .kept) (omega arith) made i x done (omega arith) (p .new));
+          row = rw (next-is, at) (row-kept w w′ n (suc n) (j .kept) (omega arith) items (suc (suc (i * 2))) (s ∷ t ∷ more) (p .row .1 .1));
+          high = p .high;
+          level = p .level .1 .1;
+          low = p .low;
+          few = omega (arith, p .few);
+        },
+      )
 
-  pub even-ends : {before : List ℕ} → Waiting before next items ts → Part w next items made i ts → i * 2 + 2 ≡ length ts → i < length made → length made ≡ 512 → next + i < nodes-in w
-      → w′ ≡ put w (next + i) (fork-cell (fork-over (getD items (i * 2 + 1) nothing) (getD items (i * 2) nothing)))
-      → x ≡ item-over (next + i) (getD items (i * 2 + 1) nothing) (getD items (i * 2) nothing)
+  -- two trees left: the last pair is the last fork
+  pub even-ends : {before w′ : List ℕ} {x : Item} (done rest : List Tree) → Waiting before next items ts → Part w next items made i ts done rest → i * 2 + 2 ≡ length ts
+      → i < length made → length made ≡ 512 → next + i < nodes-in w → Forked w w′ (next + i) (left items i) (right items i) x
       → Waiting w′ (suc (next + i)) (set made i x) (round next ts)
-  even-ends b p two = even-on (p .done) (p .rest) b (p .whole) (p .many) (p .left) (p .made-row) (p .row) (omega (arith, p .left))
+  unfolding round
+  even-ends done [] b p two room all fits f = absurd (omega arith)
+  even-ends done (r ∷ []) b p two room all fits f = absurd (omega arith)
+  even-ends {w′ = w′} {x = x} done (r ∷ l ∷ []) b p two room all fits f =
+      let n : ℕ = next + i in
+      let j = join l r (p .row .1 .0) (p .row .0) fits (rw add-one at f) in
+      let many = p .many in
+      ended (set made i x) done (fork n l r) b (omega arith) (simp length-set all) (p .whole)
+      (made-kept w w′ n (suc n) (j .kept) (omega arith) made i x done (omega arith) (p .new))
+      (rw (many, getD-set-same made i x nothing room) (j .made))
+  even-ends done (r ∷ l ∷ s ∷ more) b p two room all fits f = absurd (omega arith)
 
-  pub odd-ends : {before : List ℕ} → Waiting before next items ts → Part w next items made i ts → i * 2 + 3 ≡ length ts → i < length made → length made ≡ 512 → suc (next + i) < nodes-in w
-      → w′ ≡ put w (next + i) (fork-cell (fork-over (getD items (i * 2 + 1) nothing) (getD items (i * 2) nothing)))
-      → x ≡ item-over (next + i) (getD items (i * 2 + 1) nothing) (getD items (i * 2) nothing)
-      → w″ ≡ put w′ (suc (next + i)) (fork-cell (fork-over (getD items (i * 2 + 2) nothing) x))
-      → y ≡ item-over (suc (next + i)) (getD items (i * 2 + 2) nothing) x
-      → Waiting w″ (suc (suc (next + i))) (set made i y) (round next ts)
-  odd-ends b p three = odd-on (p .done) (p .rest) b (p .whole) (p .many) (p .left) (p .made-row) (p .row) (omega (arith, p .left))
+  -- three left: the odd tree joins the last pair
+  pub odd-ends : {before w′ w″ : List ℕ} {x y : Item} (done rest : List Tree) → Waiting before next items ts → Part w next items made i ts done rest → i * 2 + 3 ≡ length ts
+      → i < length made → length made ≡ 512 → suc (next + i) < nodes-in w → Forked w w′ (next + i) (left items i) (right items i) x
+      → Forked w′ w″ (suc (next + i)) (odd items i) x y → Waiting w″ (suc (suc (next + i))) (set made i y) (round next ts)
+  unfolding round
+  odd-ends done [] b p three room all fits f g = absurd (omega arith)
+  odd-ends done (r ∷ []) b p three room all fits f g = absurd (omega arith)
+  odd-ends done (r ∷ l ∷ []) b p three room all fits f g = absurd (omega arith)
+  odd-ends {w′ = w′} {w″ = w″} {y = y} done (r ∷ l ∷ o ∷ []) b p three room all fits f g =
+      let n : ℕ = next + i in
+      let j = join l r (p .row .1 .0) (p .row .0) (omega arith) (rw add-one at f) in
+      let waits = summed-kept w w′ n (suc n) (j .kept) (omega arith) (p .row .1 .1 .0) in
+      let k = join o (fork n l r) waits (j .made) (omega (arith, j .size)) (rw (add-two (i * 2)) at g) in
+      let many = p .many in
+      ended (set made i y) done (fork (suc n) o (fork n l r)) b (omega arith) (simp length-set all) (p .whole)
+      (made-kept w w″ n (suc (suc n)) (kept-kept w w′ w″ n (suc n) (omega arith) (j .kept) (k .kept)) (omega arith) made i y done (omega arith) (p .new))
+      (rw (many, getD-set-same made i y nothing room) (k .made))
+  odd-ends done (r ∷ l ∷ o ∷ t ∷ more) b p three room all fits f g = absurd (omega arith)

@@ -13,7 +13,7 @@ use Rattle.bits.specs.Leaf.{leaf-of}
 use Rattle.pool.specs.Node.{Put, leaf-cell, nodes-in, put}
 use Rattle.pool.specs.declared.node.Node.the-variants as Node
 use Rattle.pool.proofs.Cells.{put-leaf}
-use Rattle.build.specs.Built.{Row, Waiting, all-size, leaf-item}
+use Rattle.build.specs.Waiting.{Row, Waiting, all-size, leaf-item}
 use Rattle.build.specs.declared.building.Item.{Item}
 use Rattle.build.proofs.Joining.{leaf-summed, put-kept, row-front, row-kept}
 use Rattle.build.proofs.OneRound.{leaves-level, leaves-size}
@@ -33,12 +33,12 @@ none-begun w xs leaves items =
 abbrev here : List Bool → ℕ → List Bool
 here xs i = take 64 (drop (i * 64) xs)
 
-pub one-begun : {w : List ℕ} {xs : List Bool} {leaves : ℕ} {items : List Item} {i : ℕ} (w′ : List ℕ) (x : Item) → Begun w xs leaves items i
-    → i < leaves → leaves ≤ length items → i < nodes-in w
+pub one-begun : {w : List ℕ} {xs : List Bool} {leaves : ℕ} {items : List Item} {i : ℕ} (w′ : List ℕ) (at : ℕ) (x : Item) → Begun w xs leaves items i
+    → at ≡ leaves - suc i → i < leaves → leaves ≤ length items → i < nodes-in w
     → x ≡ leaf-item i (here xs i) → w′ ≡ put w i (leaf-cell (leaf-of (here xs i)))
-    → Begun w′ xs leaves (set items (leaves - suc i) x) (suc i)
+    → Begun w′ xs leaves (set items at x) (suc i)
 unfolding built-leaves
-one-begun {w} {xs} {leaves} {items} {i} w′ x b h room fits e f =
+one-begun {w} {xs} {leaves} {items} {i} w′ at x b place h room fits e f =
     let k : leaves - i ≡ suc (leaves - suc i) = omega arith in
     let past : i * 64 + 64 ≡ suc i * 64 = omega arith in
     let next : drop 64 (drop (i * 64) xs) ≡ drop (suc i * 64) xs = drop-drop 64 (i * 64) xs ∙ ap (λ (n : ℕ). drop n xs) past in
@@ -48,8 +48,9 @@ one-begun {w} {xs} {leaves} {items} {i} w′ x b h room fits e f =
     record {
       seen = leaf i (here xs i) ∷ b .seen;
       all = rw (← next) all;
-      row = row-front w′ (suc i) items (leaves - suc i) x (leaf i (here xs i)) (b .seen) (omega arith) (rw e (leaf-summed (here xs i) stored))
-          (row-kept w w′ i (suc i) (put-kept stored) (omega arith) items (suc (leaves - suc i)) (b .seen) older);
+      row = rw place
+          (row-front w′ (suc i) items (leaves - suc i) x (leaf i (here xs i)) (b .seen) (omega arith) (rw e (leaf-summed (here xs i) stored))
+          (row-kept w w′ i (suc i) (put-kept stored) (omega arith) items (suc (leaves - suc i)) (b .seen) older));
     }
 
 -- all leaves put: they wait for the first round

@@ -6,7 +6,7 @@ use mathlib.Core.List.{List, [], _∷_}
 use lib.ListN.{length, getD}
 use Rattle.model.specs.Build.{round, rounds}
 use Rattle.model.specs.Tree.{Tree}
-use Rattle.build.specs.Built.{Standing, Waiting, nothing}
+use Rattle.build.specs.Waiting.{Standing, Waiting, nothing}
 use Rattle.build.specs.declared.building.Item.{Item}
 use Rattle.build.proofs.OneRound.{round-halves, rounds-lone}
 
@@ -29,25 +29,26 @@ fewer k n count ts t e some p =
     let half : length (round n ts) ≡ count / 2 = round-halves n ts (omega arith) ∙ ap (λ (m : ℕ). m / 2) e in
     ap (λ (m : ℕ). rounds k (n + m) (round n ts)) (sym (ap₂ (λ (x y : ℕ). x - y) e half)) ∙ p
 
-next-turn : {w : List ℕ} {xs : List Item} {next : ℕ} (w′ : List ℕ) (xs′ : List Item) (count : ℕ) (t : Tree) (trees : List Tree) (more : ℕ)
+next-turn : {w : List ℕ} {xs : List Item} {next : ℕ} (w′ : List ℕ) (xs′ : List Item) (count c n : ℕ) (t : Tree) (trees : List Tree) (more : ℕ)
     → rounds more next trees ≡ t → length trees ≡ count → count ≤ suc more → 2 ≤ count → Waiting w next xs trees
-    → Waiting w′ (next + (count - count / 2)) xs′ (round next trees) → Turn w′ xs′ (count / 2) (next + (count - count / 2)) t
-next-turn {next} w′ xs′ count t trees zero outcome many enough some p q = absurd (omega arith)
-next-turn {next} w′ xs′ count t trees (suc more) outcome many enough some p q =
+    → Waiting w′ (next + (count - count / 2)) xs′ (round next trees) → c ≡ count / 2 → n ≡ next + (count - count / 2) → Turn w′ xs′ c n t
+next-turn w′ xs′ count c n t trees zero outcome many enough some p q half on = absurd (omega arith)
+next-turn {next = next} w′ xs′ count c n t trees (suc more) outcome many enough some p q half on =
     record {
       trees = round next trees;
       more = more;
-      outcome = fewer more next count trees t many some outcome;
-      many = round-halves next trees (omega arith) ∙ ap (λ (m : ℕ). m / 2) many;
+      outcome = rw on (fewer more next count trees t many some outcome);
+      many = round-halves next trees (omega arith) ∙ ap (λ (m : ℕ). m / 2) many ∙ sym half;
       enough = omega arith;
-      waits = q;
+      waits = rw on q;
     }
 
-pub turned : {w : List ℕ} {xs : List Item} {count next : ℕ} {t : Tree} (w′ : List ℕ) (xs′ : List Item) → Turn w xs count next t → 2 ≤ count
+-- a round over: half the trees, and a number taken for each of the others
+pub turned : {w : List ℕ} {xs : List Item} {count next c n : ℕ} {t : Tree} (w′ : List ℕ) (xs′ : List Item) → Turn w xs count next t → 2 ≤ count
     → ((ts : List Tree) → length ts ≡ count → Waiting w next xs ts → Waiting w′ (next + (count - count / 2)) xs′ (round next ts))
-    → Turn w′ xs′ (count / 2) (next + (count - count / 2)) t
-turned {count} {t} w′ xs′ p some went =
-    next-turn w′ xs′ count t (p .trees) (p .more) (p .outcome) (p .many) (p .enough) some (p .waits) (went (p .trees) (p .many) (p .waits))
+    → c ≡ count / 2 → n ≡ next + (count - count / 2) → Turn w′ xs′ c n t
+turned {count} {c} {n} {t} w′ xs′ p some went half on =
+    next-turn w′ xs′ count c n t (p .trees) (p .more) (p .outcome) (p .many) (p .enough) some (p .waits) (went (p .trees) (p .many) (p .waits)) half on
 
 -- one tree left
 last-tree : {w : List ℕ} {xs : List Item} {n : ℕ} (t : Tree) (trees : List Tree) (more : ℕ) → rounds more n trees ≡ t → length trees ≡ 1 → Waiting w n xs trees

@@ -14,7 +14,8 @@ use Rattle.model.proofs.NumbersFrom.{numbers-from-length}
 use Rattle.model.proofs.PoolCases.{build-outcomes}
 use Rattle.pool.specs.Layout.{Chained}
 use Rattle.pool.proofs.Standing.{holds-same}
-use Rattle.build.specs.Built.{Kept, Standing, Stands}
+use Rattle.build.specs.Built.{Stands}
+use Rattle.build.specs.Waiting.{Kept, Standing}
 use Rattle.build.specs.declared.building.Built.{Built}
 use Rattle.build.proofs.FreeChain.{first-from}
 

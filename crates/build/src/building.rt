@@ -15,8 +15,9 @@ ghost use Rattle.model.specs.Build.{leaf-count};
 ghost use Rattle.model.specs.Pool as Pool;
 ghost use Rattle.model.specs.Word.{bits as bits-in, marks-of};
 ghost use Rattle.bits.specs.Leaf.{leaf-of};
-ghost use Rattle.pool.specs.Node.{fork-cell, leaf-cell, nodes-in, put};
-ghost use Rattle.build.specs.Built.{Freeing, Grown, Leafy, Planted, Ready, Room, Rounded, Small, Stands, fork-over, item-over, leaf-item, leaf-marks, nothing as no-item};
+ghost use Rattle.pool.specs.Node.{leaf-cell, nodes-in, put};
+ghost use Rattle.build.specs.Built.{Room, Stands};
+ghost use Rattle.build.specs.Waiting.{Forked, Freeing, Grown, Leafy, Planted, Ready, Rounded, Small, leaf-item, leaf-marks, nothing as no-item};
 
 // How many marks a built leaf takes, the last one perhaps fewer.
 const LEAF_BUILT: u64 = 64;
@@ -139,7 +140,7 @@ fn above(left: u64, right: u64) -> u64
 // Joins two trees by a fork at n. The stored balance is two more than right height less left height.
 fn joined(nodes: &mut [u64], n: u64, left: Item, right: Item) -> Item
     requires { ⌜ Small left right ⌝ }
-    ensures { λ r. ⌜ (r ≡ item-over n left right) × (now (nodes .exit) ≡ put (now (nodes .entry)) n (fork-cell (fork-over left right))) ⌝ }
+    ensures { λ r. ⌜ Forked (now (nodes .entry)) (now (nodes .exit)) n left right r ⌝ }
 {
     set_fork(
         nodes,

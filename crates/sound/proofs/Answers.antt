@@ -8,7 +8,7 @@ use lib.Dec.{eqb}
 use Rattle.bits.specs.declared.leaf.Leaf.{Leaf}
 use Rattle.pool.specs.declared.node.Fork.{Fork}
 use Rattle.pool.specs.declared.node.Node.the-variants.{Free as free, Leaf as leaf, Fork as fork, Broken as bad}
-use Rattle.sound.specs.Part.{Says, Answered}
+use Rattle.sound.specs.Answer.{Says, Answered}
 use Rattle.sound.specs.declared.visit.Found.{Found}
 use Rattle.sound.specs.declared.visit.Seen.{Seen}
 use Rattle.sound.specs.declared.visit.Seen.the-variants.{Sound as sound, Broken as broken}
@@ -17,16 +17,16 @@ use Rattle.sound.specs.declared.visit.Seen.the-variants.{Sound as sound,
 pub never : {A : Type 0} {b : Bool} → b ≡ true → b ≡ false → A
 never p q = let z : _≡_ {A = ℕ} 0 1 = cc in absurd (omega arith)
 
+-- nor is what a visit has seen
 pub unseen : {A : Type 0} {f : Found} {r : Seen} → r ≡ sound f → r ≡ broken → A
 unseen p q = let z : _≡_ {A = ℕ} 0 1 = cc in absurd (omega arith)
 
+-- one thing is found
 pub same-found : {f g : Found} {r : Seen} → r ≡ sound f → r ≡ sound g → f ≡ g
 same-found p q = cc
 
 module _ {P : Type 0} where
-  pub says-yes : P → Says P true
-  says-yes p = record { yes = λ _. p; no = λ _. refl }
-
+  -- the fact does not hold
   pub says-no : (P → ⊥) → Says P false
   says-no n = record { yes = λ e. never e refl; no = λ p. absurd (n p) }
 
@@ -34,6 +34,7 @@ module _ {P : Type 0} where
   pub says-same : (m n : ℕ) → (m ≡ n → P) → (P → m ≡ n) → Says P (eqb m n)
   says-same m n p q = record { yes = λ e. p (eqb-true m n e); no = λ h. eq-eqb m n (q h) }
 
+  -- the same of what is found
   pub answered-yes : {f : Found} → P → Answered P f (sound f)
   answered-yes {f} p = record { yes = λ g e. (p, same-found e refl); no = λ _. refl }
 

@@ -1,10 +1,10 @@
 -- The bits of the nodes that have been met. Nodes met one after the other: what was fresh and has been marked was fresh together.
-use Prim.Native.Nat.{ℕ, zero, suc, _+_, _-_, _*_, _/_, _%_, _^_, _≤_, _<_, max}
+use Prim.Native.Nat.{ℕ, suc, _+_, _-_, _*_, _/_, _%_, _^_, _≤_, _<_, max}
 use native.Mathlib.Nat.{div-self, div-eq-of-lt, pow-suc}
 use native.Mathlib.Omega.{arith}
-use mathlib.Core.Path.{_≡_, refl, sym, ap, ap₂, _∙_}
-use mathlib.Core.Bool.{Bool, true, false}
-use mathlib.Core.List.{List, [], _∷_, _++_, List·Memᴰ, List·Memᴰ·head, List·Memᴰ·not-nil, List·Memᴰ·append-cases, List·Memᴰ·eq-of-singleton, Memᴰ·append-left, Memᴰ·append-right}
+use mathlib.Core.Path.{_≡_, refl, sym, ap, _∙_}
+use mathlib.Core.Bool.{true, false}
+use mathlib.Core.List.{List, _++_, List·Memᴰ·head, List·Memᴰ·not-nil, List·Memᴰ·append-cases, List·Memᴰ·eq-of-singleton, Memᴰ·append-left, Memᴰ·append-right}
 use mathlib.Core.Logic.{_⊎_, inl, inr, ⊎-elim}
 use borrow.Author.Tests.{eqb-true, eqb-false, eq-eqb}
 use lib.Bits.{bitOr, or-step, or-shr}
@@ -12,7 +12,6 @@ use lib.Dec.{eqb}
 use lib.ListN.{length, getD, set, length-set}
 use lib.Pow.{pow-pos, pow-add, pow-lt, shl-shr}
 use lib.Seq.{getD-set-same, getD-set-other}
-use Rattle.model.specs.Sound.{Distinct}
 use Rattle.model.specs.Word.{odd}
 use Rattle.model.proofs.Cases.{by-test, by-ltb}
 use Rattle.sound.specs.Met.{met-at, Fresh, Marked, Meets}

@@ -1,20 +1,17 @@
 -- Following a chain: a chain from the first node stands in the words exactly where one stands from the node reached, with as many nodes fewer.
-use Prim.Native.Nat.{ℕ, zero, suc, _+_, _-_, _≤_, _<_}
+use Prim.Native.Nat.{ℕ, _-_, _≤_}
 use native.Mathlib.Omega.{arith}
 use mathlib.Core.Path.{_≡_, refl, sym, ap, _∙_}
-use mathlib.Core.Bool.{Bool, true, false}
+use mathlib.Core.Bool.{Bool, false}
 use mathlib.Core.List.{List, [], _∷_, List·Memᴰ·not-nil}
 use lib.Dec.{eqb}
 use lib.ListN.{length}
-use Rattle.bits.specs.declared.leaf.Leaf.{Leaf}
-use Rattle.pool.specs.Layout.{Chained, first-of}
+use Rattle.pool.specs.Layout.{first-of}
 use Rattle.pool.specs.Node.{node-at}
-use Rattle.pool.specs.declared.node.Fork.{Fork}
-use Rattle.pool.specs.declared.node.Node.{Node}
 use Rattle.pool.specs.declared.node.Node.the-variants.{Free as free}
-use Rattle.sound.specs.Judged.{Links, Linked}
+use Rattle.sound.specs.Links.{Links, Linked}
 use Rattle.sound.specs.Met.{Fresh, Marked, Meets}
-use Rattle.sound.specs.Part.{Says}
+use Rattle.sound.specs.Answer.{Says}
 use Rattle.sound.proofs.Answers.{never, says-no, says-same}
 use Rattle.sound.proofs.Bitmap.{fresh-first, fresh-second, fresh-join}
 
@@ -24,6 +21,7 @@ pub record Passed (w : List ℕ) (end : ℕ) (met₀ : List ℕ) (n₀ left₀ :
   pub back : Linked w end met n left → Linked w end met₀ n₀ left₀
   pub forth : Linked w end met₀ n₀ left₀ → Linked w end met n left
 
+-- at first none
 pub passed-none : (w : List ℕ) (end : ℕ) (met : List ℕ) (n left : ℕ) → Passed w end met n left met n left
 passed-none w end met n left = record { size = refl; back = λ l. l; forth = λ l. l }
 
@@ -37,6 +35,7 @@ begins [] some k = absurd (omega (arith, k .counts))
 begins {w} {end} (m ∷ ks) some k =
     (rw (k .begins) at (fresh-first (m ∷ []) ks (k .fresh)), (first-of end ks, ap (node-at w) (sym (k .begins)) ∙ k .chained .0))
 
+-- a link put before a chain, and taken off it
 link-back : {w : List ℕ} {end : ℕ} {met met₁ : List ℕ} {n left next : ℕ} → Fresh met (n ∷ []) → Marked met met₁ (n ∷ []) → node-at w n ≡ free next → 1 ≤ left
     → (ks : List ℕ) → Links w end met₁ next (left - 1) ks → Links w end met n left (n ∷ ks)
 unfolding first-of
@@ -57,6 +56,7 @@ link-forth {w} {end} {next = next} m read some (j ∷ ks) k =
     let begins : first-of end ks ≡ next = cc in
     (ks, record { chained = k .chained .1; begins = begins; counts = omega (arith, k .counts); fresh = fresh-second (j ∷ []) ks (k .fresh) (rw (k .begins) m) })
 
+-- no link at all: the chain's end
 ended : {w : List ℕ} {end : ℕ} {met : List ℕ} {n left : ℕ} → n ≡ end → left ≡ 0 → Links w end met n left []
 unfolding first-of
 ended e none =
@@ -75,6 +75,7 @@ at-end (m ∷ ks) none k = absurd (omega (arith, k .counts))
 -- ---- the chain so far
 
 module _ {w : List ℕ} {end : ℕ} {met₀ : List ℕ} {n₀ left₀ : ℕ} {met : List ℕ} {n left : ℕ} (p : Passed w end met₀ n₀ left₀ met n left) where
+  -- one link more
   pub passed-more : {met₁ : List ℕ} {next : ℕ} → Fresh met (n ∷ []) → Marked met met₁ (n ∷ []) → node-at w n ≡ free next → 1 ≤ left
       → Passed w end met₀ n₀ left₀ met₁ next (left - 1)
   passed-more f m read some =

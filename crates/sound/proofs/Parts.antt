@@ -3,24 +3,25 @@ use Prim.Native.Nat.{ℕ, zero, suc, _+_, _-_, _*_, _^_, _≤_, _<_, max}
 use native.Mathlib.Omega.{arith}
 use mathlib.Core.Path.{_≡_, refl, sym, ap, ap₂, _∙_}
 use mathlib.Core.Bool.{Bool, true, false}
-use mathlib.Core.List.{List, [], _∷_, _++_, List·Memᴰ}
+use mathlib.Core.List.{List, [], _∷_, _++_}
 use lib.ListN.{length, length-append}
-use Rattle.model.specs.Marks.{count, ones, wanted}
-use Rattle.model.specs.Sound.{Sized, Balanced}
+use Rattle.model.specs.Marks.{count, ones}
+use Rattle.model.specs.Sound.{leaf-least}
 use Rattle.model.specs.Tree as Tree
 use Rattle.model.specs.Tree.{Tree, top, marks, size, height, numbers}
-use Rattle.model.proofs.Content.{size-marks}
 use Rattle.model.proofs.Counting.{count-append}
+use Rattle.model.proofs.Depth.{levels as deepest}
 use Rattle.model.proofs.Paths.{count-size}
-use Rattle.bits.specs.Leaf.{leaf-of, bits-of}
+use Rattle.bits.specs.Leaf.{leaf-of}
 use Rattle.bits.specs.declared.leaf.Leaf.{Leaf}
 use Rattle.pool.specs.Layout.{Holds, fork-of}
 use Rattle.pool.specs.Node.{node-at}
 use Rattle.pool.specs.declared.node.Fork.{Fork}
 use Rattle.pool.specs.declared.node.Node.{Node}
 use Rattle.pool.specs.declared.node.Node.the-variants.{Free as free, Leaf as leaf, Fork as fork, Broken as broken}
-use Rattle.sound.specs.Met.{Fresh, Marked, Meets}
-use Rattle.sound.specs.Part.{Answered, Agrees, Filled, Part, Took, Visited, filled, found-of, held, over}
+use Rattle.sound.specs.Met.{Fresh, Marked, Meets, met-words}
+use Rattle.sound.specs.Answer.{Answered}
+use Rattle.sound.specs.Part.{Agrees, Filled, Part, Took, Visited, filled, found-of, held, over}
 use Rattle.sound.specs.declared.visit.Found.{Found}
 use Rattle.sound.specs.declared.visit.Seen.{Seen}
 use Rattle.sound.specs.declared.visit.Seen.the-variants.{Sound as sound, Broken as unsound}
@@ -31,6 +32,7 @@ use Rattle.sound.proofs.Pigeonhole.{few}
 
 -- ---- what stands at a tree's top
 
+-- the node of a tree's top
 abbrev top-node : Tree → Node
 top-node (Tree.leaf n xs) = leaf (leaf-of xs)
 top-node (Tree.fork n l r) = fork (fork-of l r)
@@ -48,6 +50,7 @@ no-broken : (t : Tree) → top-node t ≡ broken → ⊥
 no-broken (Tree.leaf n xs) e = let z : _≡_ {A = ℕ} 0 1 = cc in omega arith
 no-broken (Tree.fork n l r) e = let z : _≡_ {A = ℕ} 0 1 = cc in omega arith
 
+-- a fresh tree has a fresh top
 top-fresh : {met : List ℕ} (t : Tree) → Fresh met (numbers t) → Fresh met (top t ∷ [])
 unfolding top numbers
 top-fresh (Tree.leaf n xs) f = f
@@ -59,6 +62,7 @@ part-top {w} t p = ap (node-at w) (sym (p .at)) ∙ holds-top w t (p .holds)
 -- ---- no tree stands there
 
 module _ {w met : List ℕ} {n total least levels : ℕ} where
+  -- every tree is ruled out
   refused : {met′ : List ℕ} → ((t : Tree) → Part w n total least levels t → Fresh met (numbers t) → ⊥) → Visited w met met′ n total least levels unsound
   refused out = record { yes = λ f e. unseen e refl; no = λ t p f. absurd (out t p f) }
 
@@ -75,6 +79,7 @@ module _ {w met : List ℕ} {n total least levels : ℕ} where
 
 -- ---- a leaf was read
 
+-- what is found of a leaf is what is found of the tree that it is
 leaf-found : (x : Leaf) (total m : ℕ) (xs : List Bool) → length xs ≤ 128 → x ≡ leaf-of xs → total ≡ length xs → filled x total ≡ found-of (Tree.leaf m xs)
 unfolding filled found-of height marks numbers
 leaf-found x total m xs h e l =
@@ -82,6 +87,7 @@ leaf-found x total m xs h e l =
     λ i. record { height = zero; ones = count true (same i); nodes = 1 }
 
 module _ {w met met₁ : List ℕ} {n total least levels : ℕ} (x : Leaf) (read : node-at w n ≡ leaf x) (f₁ : Fresh met (n ∷ [])) (m₁ : Marked met met₁ (n ∷ [])) where
+  -- a leaf that is filled makes a tree, and a tree that stands there is that leaf
   leaf-took : (f : Found) → Filled x total least → f ≡ filled x total → Took w met met₁ n total least levels f (Tree.leaf n (held x total))
   unfolding top size height numbers filled found-of marks
   leaf-took f h e =
@@ -130,7 +136,7 @@ record Forked (w : List ℕ) (n total least levels : ℕ) (f : Fork) (m : ℕ) (
   same : m ≡ n
   level : 1 ≤ levels
   within : f .«left_total» ≤ total
-  left : Part w (f .left) (f .«left_total») 33 (levels - 1) l
+  left : Part w (f .left) (f .«left_total») leaf-least (levels - 1) l
   right : Part w (f .right) (total - f .«left_total») least (levels - 1) r
   agrees : Agrees f (found-of l) (found-of r)
 
@@ -139,6 +145,7 @@ below-fresh : {met met₁ : List ℕ} {n : ℕ} (m : ℕ) (l r : Tree) → m ≡
 unfolding numbers
 below-fresh m l r e k h = fresh-second (m ∷ []) (numbers l ++ numbers r) h (rw e k)
 
+-- what is found of a fork, and met below it
 joined-found : (n : ℕ) (l r : Tree) → over (found-of l) (found-of r) ≡ found-of (Tree.fork n l r)
 unfolding over found-of height marks numbers
 joined-found n l r =
@@ -153,8 +160,8 @@ joined-marked m l r e a b c = marked-join (m ∷ []) (numbers l ++ numbers r) (r
 
 -- what was found of two children fits a word
 took-room : {w met₁ met₂ met₃ : List ℕ} {i j x y k least low : ℕ} {a b : Found} (l r : Tree)
-    → Took w met₁ met₂ i x k low a l → Took w met₂ met₃ j y least low b r → length met₁ ≡ 16 → low ≤ 12 → x + y < 2 ^ 64
-    → (a .height ≤ 12) × (b .height ≤ 12) × (a .ones + b .ones < 2 ^ 64) × (a .nodes + b .nodes + 1 < 2 ^ 64)
+    → Took w met₁ met₂ i x k low a l → Took w met₂ met₃ j y least low b r → length met₁ ≡ met-words → low ≤ deepest → x + y < 2 ^ 64
+    → (a .height ≤ deepest) × (b .height ≤ deepest) × (a .ones + b .ones < 2 ^ 64) × (a .nodes + b .nodes + 1 < 2 ^ 64)
 unfolding found-of
 took-room {met₁} l r p q long low fits =
     let both : Fresh met₁ (numbers l ++ numbers r) = fresh-join (numbers l) (numbers r) (p .fresh) (p .marked) (q .fresh) in
@@ -167,7 +174,8 @@ took-room {met₁} l r p q long low fits =
 
 module _ {w : List ℕ} {n total least levels : ℕ} (f : Fork) (read : node-at w n ≡ fork f) {met met₁ met₂ met₃ : List ℕ}
     (f₁ : Fresh met (n ∷ [])) (m₁ : Marked met met₁ (n ∷ [])) {a b g : Found} (l r : Tree)
-    (p : Took w met₁ met₂ (f .left) (f .«left_total») 33 (levels - 1) a l) (q : Took w met₂ met₃ (f .right) (total - f .«left_total») least (levels - 1) b r) where
+    (p : Took w met₁ met₂ (f .left) (f .«left_total») leaf-least (levels - 1) a l) (q : Took w met₂ met₃ (f .right) (total - f .«left_total») least (levels - 1) b r) where
+  -- two subtrees make one
   took-join : Agrees f a b → g ≡ over a b → 1 ≤ levels → f .«left_total» ≤ total → Took w met met₃ n total least levels g (Tree.fork n l r)
   unfolding top size height numbers fork-of found-of
   took-join s e level within =
@@ -197,6 +205,7 @@ module _ {w : List ℕ} {n total least levels : ℕ} (f : Fork) (read : node-at 
       }
 
 module _ {w : List ℕ} {n total least levels : ℕ} (f : Fork) (read : node-at w n ≡ fork f) where
+  -- every tree that stands there is such a fork
   forked : (m : ℕ) (l r : Tree) → Part w n total least levels (Tree.fork m l r) → Forked w n total least levels f m l r
   unfolding top size height fork-of found-of
   forked m l r p =
@@ -245,7 +254,7 @@ module _ {w : List ℕ} {n total least levels : ℕ} (f : Fork) (read : node-at 
   visited-over e = refused (λ t p _. by-forked (λ _. ⊥) t p (λ m l r h. omega (arith, h .within)))
 
   module _ {met met₁ met₂ : List ℕ} (f₁ : Fresh met (n ∷ [])) (m₁ : Marked met met₁ (n ∷ []))
-      {left : Seen} (v : Visited w met₁ met₂ (f .left) (f .«left_total») 33 (levels - 1) left) where
+      {left : Seen} (v : Visited w met₁ met₂ (f .left) (f .«left_total») leaf-least (levels - 1) left) where
     left-seen : (m : ℕ) (l r : Tree) → Forked w n total least levels f m l r → Fresh met (numbers (Tree.fork m l r))
         → (left ≡ sound (found-of l)) × Marked met₁ met₂ (numbers l)
     left-seen m l r h g = v .no l (h .left) (fresh-first (numbers l) (numbers r) (below-fresh m l r (h .same) m₁ g))
@@ -268,8 +277,8 @@ module _ {w : List ℕ} {n total least levels : ℕ} (f : Fork) (read : node-at 
 
       -- both children, and what the fork says of them
       module _ (a b : Found) (e : left ≡ sound a) (d : right ≡ sound b) where
-        pub children-room : length met ≡ 16 → levels ≤ 12 → f .«left_total» ≤ total → total < 2 ^ 64
-            → (a .height ≤ 12) × (b .height ≤ 12) × (a .ones + b .ones < 2 ^ 64) × (a .nodes + b .nodes + 1 < 2 ^ 64)
+        pub children-room : length met ≡ met-words → levels ≤ deepest → f .«left_total» ≤ total → total < 2 ^ 64
+            → (a .height ≤ deepest) × (b .height ≤ deepest) × (a .ones + b .ones < 2 ^ 64) × (a .nodes + b .nodes + 1 < 2 ^ 64)
         children-room long low within fits = took-room (v .yes a e .0) (u .yes b d .0) (v .yes a e .1) (u .yes b d .1) (m₁ .size ∙ long) (omega arith) (omega arith)
 
         pub visited-fork : {r : Seen} → Answered (Agrees f a b) (over a b) r → 1 ≤ levels → f .«left_total» ≤ total → Visited w met met₃ n total least levels r

@@ -3,27 +3,29 @@
 use Prim.Native.Nat.{ℕ, zero, suc, _+_, _-_, _*_, _/_, _%_, _^_, _≤_, _<_}
 use native.Mathlib.Nat.{zero-div}
 use native.Mathlib.Omega.{arith}
-use mathlib.Core.Path.{_≡_, refl, sym, ap, _∙_}
-use mathlib.Core.Bool.{Bool, true, false}
-use mathlib.Core.List.{List, [], _∷_, _++_, List·Memᴰ, List·Memᴰ·not-nil, List·Memᴰ·cases-cons, List·Memᴰ·append-cases, Memᴰ·cast}
+use mathlib.Core.Path.{_≡_, refl, ap}
+use mathlib.Core.Bool.{Bool, false}
+use mathlib.Core.List.{List, [], _∷_, _++_, List·Memᴰ, List·Memᴰ·not-nil, List·Memᴰ·cases-cons, List·Memᴰ·append-cases}
 use mathlib.Core.Logic.{⊎-elim}
 use lib.ListN.{length, getD, replicate, length-append}
 use Rattle.model.specs.Pool.{Pool, numbers-from}
-use Rattle.model.specs.Sound.{Sized, Sound, Whole, all-numbers}
+use Rattle.model.specs.Sound.{Sized, Whole, all-numbers}
 use Rattle.model.specs.Tree as Tree
 use Rattle.model.specs.Tree.{Tree, top, numbers}
 use Rattle.model.specs.Word.{odd}
-use Rattle.model.proofs.Depth.{depth}
+use Rattle.model.proofs.Depth.{depth, levels, most-nodes}
 use Rattle.model.proofs.NumbersFrom.{numbers-from-bounds, numbers-from-distinct, numbers-from-length}
 use Rattle.model.proofs.Rearranged.{rearranged-distinct, rearranged-length, rearranged-member, rearranged-sym}
 use Rattle.bits.specs.Leaf.{leaf-of}
 use Rattle.pool.specs.Layout.{Chained, Holds, first-of, fork-of}
-use Rattle.pool.specs.Node.{node-at, nodes-in}
+use Rattle.pool.specs.Node.{node-at, node-words, nodes-in}
 use Rattle.pool.specs.declared.chain.Chain.{Chain}
 use Rattle.pool.proofs.Cells.{leaf-says, fork-says, free-says}
-use Rattle.sound.specs.Judged.{Judged, Linked, Links, Right}
-use Rattle.sound.specs.Met.{Fresh, Marked, met-at}
-use Rattle.sound.specs.Part.{Part, Says, Took, Visited, found-of, least-of}
+use Rattle.sound.specs.Answer.{Says}
+use Rattle.sound.specs.Judged.{Judged, Right}
+use Rattle.sound.specs.Links.{Linked}
+use Rattle.sound.specs.Met.{Fresh, Marked, met-at, met-words}
+use Rattle.sound.specs.Part.{Part, Visited, found-of, least-of}
 use Rattle.sound.specs.declared.visit.Found.{Found}
 use Rattle.sound.specs.declared.visit.Seen.{Seen}
 use Rattle.sound.specs.declared.visit.Seen.the-variants.{Sound as sound, Broken as unsound}
@@ -74,13 +76,18 @@ least-whole w (Tree.fork n l r) h s = rw (h .0) at s
 -- ---- a pool
 
 abbrev pub unmarked : List ℕ
-unmarked = replicate 16 0
+unmarked = replicate met-words 0
 
-module _ (w : List ℕ) (root total : ℕ) (chain : Chain) (most : nodes-in w ≤ 1023) where
-  abbrev least : ℕ
-  least = least-of (node-at w root)
+-- a tree that was found has no more nodes than there are
+pub seen-few : {w met met′ : List ℕ} {n total least levels : ℕ} {r : Seen} → Visited w met met′ n total least levels r → (f : Found) → r ≡ sound f → f .nodes ≤ nodes-in w
+unfolding found-of
+seen-few {w} v f e =
+    let t = v .yes f e .0 in
+    let s = v .yes f e .1 in
+    omega (arith, ap (λ (x : Found). x .nodes) (s .found), few (nodes-in w) (numbers t) (s .fresh .distinct) (tree-below w t (s .part .holds)))
 
-  right-part : (p : Pool) → Right w root total chain p → Part w root total least 12 (p .tree)
+module _ {w : List ℕ} {root total : ℕ} {chain : Chain} (most : nodes-in w ≤ most-nodes) where
+  right-part : (p : Pool) → Right w root total chain p → Part w root total (least-of (node-at w root)) levels (p .tree)
   right-part p h =
       record {
         at = h .rooted;
@@ -98,7 +105,7 @@ module _ (w : List ℕ) (root total : ℕ) (chain : Chain) (most : nodes-in w �
       record {
         distinct = rearranged-distinct (numbers-from 0 (nodes-in w)) all (h .sound .each) (numbers-from-distinct 0 (nodes-in w));
         room = λ k m. omega (arith, numbers-from-bounds k 0 (nodes-in w) (rearranged-member k all (numbers-from 0 (nodes-in w)) (rearranged-sym _ all (h .sound .each)) m));
-        unmet = λ k _. unmet 16 k;
+        unmet = λ k _. unmet met-words k;
       }
 
   right-amount : (p : Pool) → Right w root total chain p → length (numbers (p .tree)) + chain .count ≡ nodes-in w
@@ -109,7 +116,7 @@ module _ (w : List ℕ) (root total : ℕ) (chain : Chain) (most : nodes-in w �
 
   -- ---- after the visit
 
-  module _ {met : List ℕ} {r : Seen} (v : Visited w unmarked met root total least 12 r) where
+  module _ {met : List ℕ} {r : Seen} (v : Visited w unmarked met root total (least-of (node-at w root)) levels r) where
     right-seen : (p : Pool) → Right w root total chain p → (r ≡ sound (found-of (p .tree))) × Marked unmarked met (numbers (p .tree))
     right-seen p h = v .no (p .tree) (right-part p h) (fresh-first (numbers (p .tree)) (p .free) (right-fresh p h))
 
@@ -118,14 +125,6 @@ module _ (w : List ℕ) (root total : ℕ) (chain : Chain) (most : nodes-in w �
     judged-none e = record { yes = λ t. never t refl; no = λ p h. unseen (right-seen p h .0) e }
 
     module _ (f : Found) (e : r ≡ sound f) where
-      -- it has no more nodes than there are
-      pub judged-few : f .nodes ≤ nodes-in w
-      unfolding found-of
-      judged-few =
-          let t = v .yes f e .0 in
-          let s = v .yes f e .1 in
-          omega (arith, ap (λ (x : Found). x .nodes) (s .found), few (nodes-in w) (numbers t) (s .fresh .distinct) (tree-below w t (s .part .holds)))
-
       right-count : (p : Pool) → Right w root total chain p → nodes-in w - f .nodes ≡ chain .count
       unfolding found-of
       right-count p h = omega (arith, ap (λ (x : Found). x .nodes) (same-found e (right-seen p h .0)), right-amount p h)
@@ -134,7 +133,7 @@ module _ (w : List ℕ) (root total : ℕ) (chain : Chain) (most : nodes-in w �
       pub judged-count : (nodes-in w - f .nodes ≡ chain .count → ⊥) → Judged w root total chain false
       judged-count ne = record { yes = λ t. never t refl; no = λ p h. absurd (ne (right-count p h)) }
 
-      pool-right : length w ≡ 6 * nodes-in w → nodes-in w - f .nodes ≡ chain .count → Linked w (nodes-in w) met (chain .first) (chain .count)
+      pool-right : length w ≡ nodes-in w * node-words → nodes-in w - f .nodes ≡ chain .count → Linked w (nodes-in w) met (chain .first) (chain .count)
           → (p : Pool) × Right w root total chain p
       unfolding found-of all-numbers
       pool-right words left l =
@@ -144,12 +143,12 @@ module _ (w : List ℕ) (root total : ℕ) (chain : Chain) (most : nodes-in w �
           let k = l .1 in
           let all : Fresh unmarked (numbers t ++ ks) = fresh-join (numbers t) ks (s .fresh) (s .marked) (k .fresh) in
           let amount : length (numbers t ++ ks) ≡ nodes-in w =
-          omega (arith, length-append (numbers t) ks, ap (λ (x : Found). x .nodes) (s .found), k .counts, judged-few) in
+          omega (arith, length-append (numbers t) ks, ap (λ (x : Found). x .nodes) (s .found), k .counts, seen-few v f e) in
           let below : (i : ℕ) → List·Memᴰ i (numbers t ++ ks) → i < nodes-in w =
           λ i m. ⊎-elim (tree-below w t (s .part .holds) i) (chain-below w (nodes-in w) ks (k .chained) i) (List·Memᴰ·append-cases (numbers t) m) in (
             record { tree = t; free = ks },
             record {
-              laid = record { words = omega arith; tree = s .part .holds; chain = k .chained };
+              laid = record { words = words; tree = s .part .holds; chain = k .chained };
               sound = record {
                 balanced = s .part .balanced;
                 whole = least-whole w t (s .part .holds) (rw (s .part .at) (s .part .sized));
@@ -163,7 +162,7 @@ module _ (w : List ℕ) (root total : ℕ) (chain : Chain) (most : nodes-in w �
           )
 
       -- a pool stands there exactly where the chain does
-      pub judged-chain : {b : Bool} → length w ≡ 6 * nodes-in w → nodes-in w - f .nodes ≡ chain .count
+      pub judged-chain : {b : Bool} → length w ≡ nodes-in w * node-words → nodes-in w - f .nodes ≡ chain .count
           → Says (Linked w (nodes-in w) met (chain .first) (chain .count)) b → Judged w root total chain b
       judged-chain words left says =
           record {

@@ -7,21 +7,9 @@ use lib.ListN.{length}
 use Rattle.model.specs.Pool.{Pool}
 use Rattle.model.specs.Sound.{Sound}
 use Rattle.model.specs.Tree.{top, size}
-use Rattle.pool.specs.Layout.{Chained, Laid, first-of}
+use Rattle.pool.specs.Layout.{Laid, first-of}
 use Rattle.pool.specs.Node.{nodes-in}
 use Rattle.pool.specs.declared.chain.Chain.{Chain}
-use Rattle.sound.specs.Met.{Fresh}
-
--- a chain of so many free nodes that begins at n and ends at `end`, none of them met before
-pub record Links (w : List ℕ) (end : ℕ) (met : List ℕ) (n amount : ℕ) (ks : List ℕ) : Type 0 where
-  pub chained : Chained w end ks
-  pub begins : first-of end ks ≡ n
-  pub counts : length ks ≡ amount
-  pub fresh : Fresh met ks
-
--- there is such a chain
-abbrev pub Linked : List ℕ → ℕ → List ℕ → ℕ → ℕ → Type 0
-Linked w end met n amount = (ks : List ℕ) × Links w end met n amount ks
 
 -- a sound pool stands in these words, as many nodes as there is room for, with this root, this many marks and this chain
 pub record Right (w : List ℕ) (root total : ℕ) (chain : Chain) (p : Pool) : Type 0 where

@@ -1,3 +1,5 @@
+pub mod Answer
+pub mod Judged
+pub mod Links
 pub mod Met
 pub mod Part
-pub mod Judged

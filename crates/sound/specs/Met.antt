@@ -8,6 +8,10 @@ use lib.ListN.{length, getD}
 use Rattle.model.specs.Sound.{Distinct}
 use Rattle.model.specs.Word.{odd, word-bits}
 
+-- the words that have a bit for each of 1,024 nodes
+abbrev pub met-words : ℕ
+met-words = 16
+
 -- node k has been met
 unfoldable pub met-at : List ℕ → ℕ → Bool
 met-at met k = odd (getD met (k / word-bits) 0 / 2 ^ (k % word-bits))

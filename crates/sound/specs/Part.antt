@@ -1,5 +1,5 @@
 -- A subtree that stands in some node words from a number down, and what a visit answers of it.
-use Prim.Native.Nat.{ℕ, zero, suc, _+_, _≤_, max}
+use Prim.Native.Nat.{ℕ, zero, _+_, _≤_, max}
 use mathlib.Core.Path.{_≡_}
 use mathlib.Core.Bool.{Bool, true}
 use mathlib.Core.List.{List}
@@ -17,18 +17,6 @@ use Rattle.sound.specs.Met.{Fresh, Marked}
 use Rattle.sound.specs.declared.visit.Found.{Found}
 use Rattle.sound.specs.declared.visit.Seen.{Seen}
 use Rattle.sound.specs.declared.visit.Seen.the-variants.{Sound as sound}
-
--- ---- answers
-
--- true exactly where the fact holds
-pub record Says (P : Type 0) (r : Bool) : Type 0 where
-  pub yes : r ≡ true → P
-  pub no : P → r ≡ true
-
--- something is found exactly where the fact holds, and what is found is known
-pub record Answered (P : Type 0) (found : Found) (r : Seen) : Type 0 where
-  pub yes : (f : Found) → r ≡ sound f → P × (f ≡ found)
-  pub no : P → r ≡ sound found
 
 -- ---- one node
 

@@ -9,7 +9,8 @@ use pool::node_count;
 ghost use mathlib.Core.Path.{_≡_};
 ghost use Prim.Native.Nat.{_*_, _≤_};
 ghost use lib.ListN.{length as size};
-ghost use Rattle.pool.specs.Node.{nodes-in};
+ghost use Rattle.model.proofs.Depth.{most-nodes};
+ghost use Rattle.pool.specs.Node.{node-words, nodes-in};
 ghost use Rattle.sound.specs.Judged.{Judged};
 
 // No leaf of 1,023 nodes is further down.
@@ -20,7 +21,7 @@ const MET_WORDS: usize = 16;
 
 // Whether a sound pool stands in these words, with this root, this many marks and this chain.
 pub fn sound(nodes: &[u64], root: u64, length: u64, chain: Chain) -> bool
-    requires { ⌜ (size (now nodes) ≡ 6 * nodes-in (now nodes)) × (nodes-in (now nodes) ≤ 1023) ⌝ }
+    requires { ⌜ (size (now nodes) ≡ nodes-in (now nodes) * node-words) × (nodes-in (now nodes) ≤ most-nodes) ⌝ }
     ensures { λ r. ⌜ Judged (now (nodes .entry)) root length chain r ⌝ }
 {
     let mut met = [0u64; MET_WORDS];

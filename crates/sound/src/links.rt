@@ -5,8 +5,8 @@ use pool::Node;
 use pool::node_at;
 use pool::node_count;
 ghost use Rattle.pool.specs.Node.{nodes-in};
-ghost use Rattle.sound.specs.Judged.{Linked};
-ghost use Rattle.sound.specs.Part.{Says};
+ghost use Rattle.sound.specs.Answer.{Says};
+ghost use Rattle.sound.specs.Links.{Linked};
 
 // Whether the chain has so many free nodes, none of them met before, and then ends.
 pub fn chain_sound(nodes: &[u64], met: &mut [u64], chain: Chain) -> bool

@@ -9,7 +9,10 @@ ghost use mathlib.Core.Path.{_≡_};
 ghost use Prim.Native.Nat.{_+_, _<_, _≤_, _^_};
 ghost use lib.ListN.{length};
 ghost use Rattle.pool.specs.Node.{node-at};
-ghost use Rattle.sound.specs.Part.{Agrees, Answered, Filled, Says, Visited, even-balance, filled, higher, least-of, over};
+ghost use Rattle.model.proofs.Depth.{levels as deepest};
+ghost use Rattle.sound.specs.Answer.{Answered, Says};
+ghost use Rattle.sound.specs.Met.{met-words};
+ghost use Rattle.sound.specs.Part.{Agrees, Filled, Visited, even-balance, filled, higher, least-of, over};
 
 // A leaf of several that is not the rightmost holds at least this many marks, and no leaf holds more than LEAF_MOST.
 const LEAF_LEAST: u64 = 33;
@@ -57,7 +60,7 @@ fn leaf_seen(leaf: Leaf, total: u64, least: u64) -> Seen
 
 // The height of a fork over these heights.
 fn above(left: u64, right: u64) -> u64
-    requires { ⌜ (left ≤ 12) × (right ≤ 12) ⌝ }
+    requires { ⌜ (left ≤ deepest) × (right ≤ deepest) ⌝ }
     ensures { λ r. ⌜ r ≡ higher left right ⌝ }
 {
     if left < right {
@@ -68,7 +71,7 @@ fn above(left: u64, right: u64) -> u64
 
 // Whether a stored balance is true of these heights, and none is more than one level higher.
 fn balanced(balance: u64, left: u64, right: u64) -> bool
-    requires { ⌜ (left ≤ 12) × (right ≤ 12) ⌝ }
+    requires { ⌜ (left ≤ deepest) × (right ≤ deepest) ⌝ }
     ensures { λ r. ⌜ Says (even-balance balance left right) r ⌝ }
 {
     if balance == 0 {
@@ -82,7 +85,7 @@ fn balanced(balance: u64, left: u64, right: u64) -> bool
 
 // What a fork says, held against its two children.
 fn fork_seen(fork: Fork, left: Found, right: Found) -> Seen
-    requires { ⌜ (left .height ≤ 12) × (right .height ≤ 12) × (left .ones + right .ones < 2 ^ 64) × (left .nodes + right .nodes + 1 < 2 ^ 64) ⌝ }
+    requires { ⌜ (left .height ≤ deepest) × (right .height ≤ deepest) × (left .ones + right .ones < 2 ^ 64) × (left .nodes + right .nodes + 1 < 2 ^ 64) ⌝ }
     ensures { λ r. ⌜ Answered (Agrees fork left right) (over left right) r ⌝ }
 {
     if fork.left_ones != left.ones {
@@ -101,7 +104,7 @@ fn fork_seen(fork: Fork, left: Found, right: Found) -> Seen
 
 // Visits the subtree at n, which is to hold `total` marks, its last leaf at least `least`.
 pub fn visit(nodes: &[u64], met: &mut [u64], n: u64, total: u64, least: u64, levels: u64) -> Seen
-    requires { ⌜ (length (now met) ≡ 16) × (levels ≤ 12) ⌝ }
+    requires { ⌜ (length (now met) ≡ met-words) × (levels ≤ deepest) ⌝ }
     ensures { λ r. ⌜ Visited (now (nodes .entry)) (now (met .entry)) (now (met .exit)) n total least levels r ⌝ }
 {
     if !meet(met, n) {
@@ -117,16 +120,10 @@ pub fn visit(nodes: &[u64], met: &mut [u64], n: u64, total: u64, least: u64, lev
             if total < left_total {
                 return Seen::Broken;
             }
+            let right_total = total - left_total;
             match visit(nodes, met, fork.left, left_total, LEAF_LEAST, levels - 1) {
                 Seen::Sound(left) => {
-                    match visit(
-                        nodes,
-                        met,
-                        fork.right,
-                        total - left_total,
-                        least,
-                        levels - 1,
-                    ) {
+                    match visit(nodes, met, fork.right, right_total, least, levels - 1) {
                         Seen::Sound(right) => fork_seen(fork, left, right),
                         Seen::Broken => Seen::Broken,
                     }

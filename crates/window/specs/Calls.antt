@@ -1,6 +1,7 @@
 -- What the calls answer and leave, for all words, by the scope's sequence of tests.
 use Prim.Native.Nat.{ℕ, _*_, _≤_, _<_}
 use mathlib.Core.Path.{_≡_}
+use mathlib.Core.Bool.{Bool, true, false}
 use mathlib.Core.List.{List, _++_}
 use mathlib.Core.Option.{Option, none, some}
 use lib.ListN.{length, take, drop}
@@ -32,6 +33,11 @@ pub record Measures (ws : List ℕ) (r : ℕ) : Type 0 where
 abbrev pub Judges : List ℕ → ℕ → Judgement → Type 0
 Judges ws n (Stands′ t) = (p : Pool) × Stands ws n p × (t ≡ trailer-in (drop (n * 6) ws))
 Judges ws n Damaged′ = WellFormed ws → ⊥
+
+-- the answer to a question is yes exactly where it holds
+pub record Says (r : Bool) (P : Type 0) : Type 0 where
+  pub yes : r ≡ true → P
+  pub no : r ≡ false → P → ⊥
 
 -- ---- check: its tests are 6, 7
 

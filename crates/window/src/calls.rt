@@ -5,8 +5,9 @@ use crate::trailer::set_trailer;
 use crate::trailer::trailer_of;
 use sound::sound;
 use tree::words_for;
-ghost use Prim.Native.Nat.{_≤_};
-ghost use Rattle.window.specs.Calls.{BuildsTo, Checked, Judges, Measures, Valued};
+ghost use Prim.Native.Nat.{_*_, _<_};
+ghost use lib.ListN as ListN;
+ghost use Rattle.window.specs.Calls.{BuildsTo, Checked, Judges, Measures, Says, Valued};
 ghost use Rattle.window.specs.Layout.{Counted};
 
 // The words of a node, and of the trailer.
@@ -74,4 +75,69 @@ pub fn check(pool: &[u64]) -> Answer
         Judgement::Stands(trailer) => Answer::Done(trailer.length),
         Judgement::Damaged => Answer::NotSound,
     }
+}
+
+// Writes the marks out as words; beside 0 how many.
+pub fn values(pool: &[u64], out: &mut [u64]) -> Answer
+    ensures { λ r. ⌜ Valued (now (pool .entry)) (now (out .entry)) r (now (out .exit)) ⌝ }
+{
+    let n = nodes_of(pool);
+    if n == 0 {
+        return Answer::WrongSize;
+    }
+    match judged(pool, n) {
+        Judgement::Stands(trailer) => {
+            let words = words_for(trailer.length);
+            if (out.len() as u64) < words {
+                return Answer::ShortOutput;
+            }
+            let end = n * NODE_WORDS;
+            tree::values(&pool[..end], trailer.root, trailer.length, out);
+            Answer::Done(words)
+        }
+        Judgement::Damaged => Answer::NotSound,
+    }
+}
+
+// Whether some words have fewer than so many bits.
+fn too_few(words: &[u64], length: u64) -> bool
+    ensures { λ r. ⌜ Says r (64 * ListN.length (now (words .entry)) < length) ⌝ }
+{
+    let have = words.len() as u64;
+    let whole = length / WORD_BITS;
+    if have < whole {
+        return true;
+    }
+    if whole < have {
+        return false;
+    }
+    0 < length % WORD_BITS
+}
+
+// Overwrites any pool with one built from the first marks of some words; beside 0 the length.
+pub fn build(pool: &mut [u64], words: &[u64], length: u64) -> Answer
+    ensures { λ r. ⌜ BuildsTo (now (pool .entry)) (now (words .entry)) length r (now (pool .exit)) ⌝ }
+{
+    let n = nodes_of(pool);
+    if n == 0 {
+        return Answer::WrongSize;
+    }
+    if too_few(words, length) {
+        return Answer::TooLong;
+    }
+    if (n as u64 + 1) / 2 < build::leaf_count(length) {
+        return Answer::Full;
+    }
+    let end = n * NODE_WORDS;
+    let built = build::build(&mut pool[..end], words, length);
+    let chain = built.chain;
+    let trailer = Trailer {
+        root: built.root,
+        length,
+        chain,
+        nodes: n as u64,
+        last: 0,
+    };
+    set_trailer(&mut pool[end..], trailer);
+    Answer::Done(length)
 }

@@ -4,4 +4,6 @@ mod calls;
 mod trailer;
 
 pub use answer::Answer;
+pub use calls::build;
 pub use calls::check;
+pub use calls::values;

@@ -11,7 +11,7 @@ returns c =
     let s = c .before .before .before .before .before .before .before in
     let a = s .before .before .before .before .before .args in
     let item : ℕ → Item = λ h. record { node = a .n; total = a .left .total + a .right .total; ones = a .left .ones + a .right .ones; height = h } in
-    (ap item (c .above .ensures), s .set-fork .ensures)
+    record { item = ap item (c .above .ensures); stored = s .set-fork .ensures }
 
 pub joined-spec : {M : Type 1} → statement M
 joined-spec =

@@ -11,7 +11,7 @@ use Rattle.model.specs.Marks.{rank}
 use Rattle.bits.specs.Leaf.{bits-of}
 use Rattle.bits.specs.declared.leaf.Leaf.{Leaf}
 use Rattle.pool.specs.Node.{leaf-cell, put}
-use Rattle.build.specs.Built.{leaf-marks}
+use Rattle.build.specs.Waiting.{leaf-marks}
 use Rattle.build.specs.declared.building.Item.{Item}
 use Rattle.build.proofs.LeafMarks.{leaf-marks-length, count-held}
 use Rattle.build.proofs.building.put_leaf.Statement.{statement}

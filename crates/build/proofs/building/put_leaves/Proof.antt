@@ -1,5 +1,5 @@
 -- Each turn puts one more leaf in front of the row. Assumes nothing.
-use Prim.Native.Nat.{suc, _-_, _≤_}
+use Prim.Native.Nat.{_-_, _≤_}
 use native.Mathlib.Numerals.{add-one}
 use native.Mathlib.Omega.{arith}
 use borrow.Author.Needs.{needs}
@@ -7,7 +7,7 @@ use mathlib.Core.Path.{_≡_, refl}
 use denote.Ref.{now}
 use lib.ListN.{length as count-of, take, length-set}
 use Rattle.model.specs.Word.{marks-of}
-use Rattle.build.specs.Built.{leaf-marks}
+use Rattle.build.specs.Waiting.{leaf-marks}
 use Rattle.build.proofs.OneRound.{leaf-begins}
 use Rattle.build.proofs.PutLeaves.{Begun, all-begun, none-begun, one-begun}
 use Rattle.build.proofs.building.put_leaves.Statement.{statement}
@@ -55,12 +55,11 @@ loop-again c =
     let s = c .before .before .before .before .before .loop in
     let a = c .before .before .before .before .before .before .before .before .before .args in
     let p = c .before .before .put-leaf in
-    let size : count-of (p .last .0) ≡ count-of (s .nodes) = p .kept .0 in
-    let place : a .leaves - 1 - s .i ≡ a .leaves - suc (s .i) = omega arith in (
+    let size : count-of (p .last .0) ≡ count-of (s .nodes) = p .kept .0 in (
       omega arith,
       omega arith,
       simp length-set (s .inv .2),
-      rw (place, add-one) (one-begun (p .last .0) (p .result) (s .inv .3) (omega arith) (omega arith) (omega arith) (p .ensures .0) (p .ensures .1)),
+      rw add-one (one-begun (p .last .0) _ (p .result) (s .inv .3) (omega arith) (omega arith) (omega arith) (omega arith) (p .ensures .0) (p .ensures .1)),
     )
 
 same-length : tie.Need-same-length Inv-loop μ-loop

@@ -7,15 +7,15 @@ use mathlib.Core.Path.{_≡_, refl}
 use mathlib.Core.List.{List}
 use lib.ListN.{length, length-set}
 use Rattle.model.specs.Tree.{Tree}
-use Rattle.build.specs.Built.{Waiting}
-use Rattle.build.proofs.Pairing.{Part, even-ends, no-pair, odd-ends, odd-small, pair-more, pair-small}
+use Rattle.build.specs.Waiting.{Waiting}
+use Rattle.build.proofs.Pairing.{Parted, even-ends, no-pair, odd-ends, odd-small, pair-more, pair-small}
 use Rattle.build.proofs.building.round.Statement.{statement}
 use Rattle.build.proofs.building.round.Tie as tie
 
 abbrev Inv-loop : tie.InvT-loop
 Inv-loop nodes₀ count next items made₀ i₀ nodes made i =
     (i * 2 + 2 ≤ count) × (length nodes ≡ length nodes₀) × (length made ≡ 512)
-    × ((ts : List Tree) → length ts ≡ count → Waiting nodes₀ next items ts → Part nodes next items made i ts)
+    × ((ts : List Tree) → length ts ≡ count → Waiting nodes₀ next items ts → Parted nodes next items made i ts)
 
 abbrev μ-loop : tie.MeasureT-loop
 μ-loop nodes₀ count next items made₀ i₀ nodes made i = count - i
@@ -23,29 +23,25 @@ abbrev μ-loop : tie.MeasureT-loop
 -- ---- a turn
 
 loop-holds : tie.Need-loop-holds Inv-loop μ-loop
-loop-holds c = let p = c .before .pre .1 in (omega arith, refl, p .wait .room, λ ts e b. no-pair b)
+loop-holds c = (omega arith, refl, c .before .pre .1 .wait .room, λ ts e b. no-pair b)
 
 joined-requires : tie.Need-joined-requires Inv-loop μ-loop
 joined-requires c κs =
     let s = c .before .before .before .before .loop in
-    let p = c .before .before .before .before .before .before .pre .1 in
-    pair-small (s .inv .3 (p .these) (p .many) (p .wait)) (omega (arith, p .many))
+    let ready = c .before .before .before .before .before .before .pre .1 in
+    let p = s .inv .3 (ready .these) (ready .many) (ready .wait) in
+    pair-small (p .0) (p .1) (p .2) (omega (arith, ready .many))
 
 loop-again : tie.Need-loop-again Inv-loop μ-loop
 loop-again c =
     let s = c .before .before .before .before .before .before .before .loop in
-    let t = c .before .before .before .before .before .before .before .before .before in
-    let a = t .args in
     let j = c .before .before .joined in
-    let items = a .t2 in
     let size : length (j .last .0) ≡ length (s .nodes) = j .kept .0 in
     let room = s .inv .2 in (
       omega arith,
       omega arith,
       simp length-set room,
-      λ ts e b.
-          rw add-one
-          (pair-more (s .nodes) (j .last .0) (a .next) items (s .made) (s .i) ts (j .result) (s .inv .3 ts e b) (omega arith) (omega arith) (omega arith) (j .ensures .1) (j .ensures .0)),
+      λ ts e b. let p = s .inv .3 ts e b in rw add-one (pair-more (p .0) (p .1) (p .2) (omega arith) (omega arith) (omega arith) (j .ensures)),
     )
 
 -- ---- the last pair
@@ -53,8 +49,9 @@ loop-again c =
 joined-requires-2 : tie.Need-joined-requires-2 Inv-loop μ-loop
 joined-requires-2 c κs =
     let s = c .before .before .before .before .loop in
-    let p = c .before .before .before .before .before .before .pre .1 in
-    pair-small (s .inv .3 (p .these) (p .many) (p .wait)) (omega (arith, p .many))
+    let ready = c .before .before .before .before .before .before .pre .1 in
+    let p = s .inv .3 (ready .these) (ready .many) (ready .wait) in
+    pair-small (p .0) (p .1) (p .2) (omega (arith, ready .many))
 
 returns : tie.Need-returns Inv-loop μ-loop
 returns c =
@@ -67,10 +64,9 @@ returns c =
     record {
       kept = omega arith;
       done = λ ts e b.
+          let p = s .inv .3 ts e b in
           let last : a .next + (a .count - a .count / 2) ≡ suc (a .next + s .i) = omega arith in
-          rw last
-          (even-ends (s .nodes) (j .last .0) (j .last .0) (a .next) (a .t2) (s .made) (s .i) ts (j .result) (j .result)
-          b (s .inv .3 ts e b) (omega arith) (omega arith) room (omega arith) (j .ensures .1) (j .ensures .0));
+          rw last (even-ends (p .0) (p .1) b (p .2) (omega arith) (omega arith) room (omega arith) (j .ensures));
     }
 
 -- ---- an odd tree
@@ -78,28 +74,32 @@ returns c =
 joined-requires-3 : tie.Need-joined-requires-3 Inv-loop μ-loop
 joined-requires-3 c κs =
     let s = c .before .before .before .before .before .before .before .before .before .before .loop in
-    let p = c .before .before .before .before .before .before .before .before .before .before .before .before .pre .1 in
+    let ready = c .before .before .before .before .before .before .before .before .before .before .before .before .pre .1 in
     let j = c .before .before .before .before .before .joined2 in
-    odd-small (s .inv .3 (p .these) (p .many) (p .wait)) (j .result) (omega (arith, p .many)) (j .ensures .0)
+    let p = s .inv .3 (ready .these) (ready .many) (ready .wait) in
+    odd-small (j .result) (p .0) (p .1) (p .2) (omega (arith, ready .many)) (j .ensures .item)
 
 returns-2 : tie.Need-returns-2 Inv-loop μ-loop
 returns-2 c =
     let s = c .before .before .before .before .before .before .before .before .before .before .before .before .before .loop in
-    let a = c .before .before .before .before .before .before .before .before .before .before .before .before .before .before .before .args in
+    let t = c .before .before .before .before .before .before .before .before .before .before .before .before .before .before .before in
+    let a = t .args in
+    let fits = t .pre .1 .enough in
+    let some = s .inv .0 in
+    let stopped = c .before .before .before .before .before .before .before .before .before .before .before .before .loop-test .left in
     let j = c .before .before .before .before .before .before .before .before .joined2 in
     let k = c .before .before .joined3 in
     let size : length (j .last .0) ≡ length (s .nodes) = j .kept .0 in
     let again : length (k .last .0) ≡ length (j .last .0) = k .kept .0 in
     let room = s .inv .2 in
     let kept = s .inv .1 in
-    let fits = c .before .before .before .before .before .before .before .before .before .before .before .before .before .before .before .pre .1 .enough in
     record {
       kept = omega arith;
       done = λ ts e b.
+          let p = s .inv .3 ts e b in
           let last : a .next + (a .count - a .count / 2) ≡ suc (suc (a .next + s .i)) = omega arith in
           rw last
-          (odd-ends (s .nodes) (j .last .0) (k .last .0) (a .next) (a .t2) (s .made) (s .i) ts (j .result) (k .result)
-          b (s .inv .3 ts e b) (omega arith) (omega arith) room (omega arith) (j .ensures .1) (j .ensures .0) (rw add-one at (k .ensures .1)) (rw add-one at (k .ensures .0)));
+          (odd-ends (p .0) (p .1) b (p .2) (omega arith) (omega arith) room (omega arith) (j .ensures) (rw (add-one (a .next + s .i)) at (k .ensures)));
     }
 
 pub round-spec : {M : Type 1} → statement M

@@ -7,7 +7,7 @@ use mathlib.Core.List.{List}
 use lib.ListN.{length}
 use Rattle.model.specs.Build as Build
 use Rattle.model.specs.Tree.{Tree}
-use Rattle.build.specs.Built.{Waiting}
+use Rattle.build.specs.Waiting.{Waiting}
 use Rattle.build.proofs.Turns.{Turn, first-turn, last-turn, turned}
 use Rattle.build.proofs.building.rounds.Statement.{statement}
 use Rattle.build.proofs.building.rounds.Tie as tie
@@ -35,7 +35,7 @@ loop-again c =
     let s = c .before .before .before .before .before .loop in
     let r = c .before .before .round in
     let size = r .ensures .kept in
-    (omega arith, omega arith, omega arith, omega arith, λ ts e p. turned (r .last .0) (r .result) (s .inv .4 ts e p) (omega arith) (r .ensures .done))
+    (omega arith, omega arith, omega arith, omega arith, λ ts e p. turned (r .last .0) (r .result) (s .inv .4 ts e p) (omega arith) (r .ensures .done) (omega arith) (omega arith))
 
 returns : tie.Need-returns Inv-loop μ-loop
 returns c =
