@@ -1,0 +1,16 @@
+-- What crosses to the host: the scope's number and value of the window's answer.
+use mathlib.Core.Path.{_≡_}
+use Rattle.window.specs.Answer.{code, value}
+use Rattle.window.specs.declared.answer.Answer.{Answer}
+use Rattle.spelunzone.specs.declared.Reply.{Reply}
+
+-- the reply is this answer
+pub record Says (a : Answer) (r : Reply) : Type 0 where
+  pub code : r .code ≡ code a
+  pub value : r .value ≡ value a
+
+-- the reply is an answer that the call may give
+pub record Replies (P : Answer → Type 0) (r : Reply) : Type 0 where
+  pub answer : Answer
+  pub allowed : P answer
+  pub says : Says answer r
