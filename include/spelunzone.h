@@ -1,0 +1,53 @@
+/* The window of marks for a C host: one pool of 64-bit words, lent for the time of a call. No heap, no state of its own.
+ *
+ * A pool of N nodes, 1 to 1,023, is 6 * (N + 1) words. Every call takes arbitrary words, tests them itself and ends; a refusal changes no
+ * word of what it was lent. Slices that are written must not overlap other slices of the same call. A pointer must be aligned, and not null
+ * also where its count is 0.
+ */
+#ifndef SPELUNZONE_H
+#define SPELUNZONE_H
+
+#include <stddef.h>
+#include <stdint.h>
+
+#ifdef __cplusplus
+extern "C" {
+#endif
+
+enum {
+    SZ_DONE = 0,
+    SZ_OUT_OF_RANGE = 1,
+    SZ_NO_ZEROTH = 2,
+    SZ_TOO_FEW = 3,
+    SZ_FULL = 4,
+    SZ_MALFORMED = 5,
+    SZ_WRONG_SIZE = 6,
+    SZ_NOT_SOUND = 7,
+    SZ_SHORT_OUTPUT = 8,
+    SZ_PART_ORDER = 9,
+    SZ_TOO_LONG = 10,
+    SZ_LEAF_LACKS = 11
+};
+
+/* The words of a pool of n nodes. */
+#define SZ_POOL_WORDS(n) (6 * ((size_t)(n) + 1))
+
+/* A code, 0 where the call was done, and a value, 0 where it was refused. */
+typedef struct {
+    uint64_t code, value;
+} sz_answer;
+
+/* Whether the pool is well-formed: 6, 7, or 0 and how many marks it holds. */
+sz_answer sz_check(const uint64_t *pool, size_t pool_words);
+
+/* Overwrites the pool with the first marks of some words, lowest bit first: 6, 10, 4, or 0 and how many marks it holds. */
+sz_answer sz_build(uint64_t *pool, size_t pool_words, const uint64_t *words, size_t word_count, uint64_t length);
+
+/* Writes the marks out, two words for each 128 begun, padded with zeros; later words stay: 6, 7, 8, or 0 and how many words. */
+sz_answer sz_values(const uint64_t *pool, size_t pool_words, uint64_t *out, size_t out_words);
+
+#ifdef __cplusplus
+}
+#endif
+
+#endif
