@@ -105,7 +105,7 @@ static void damages(void) {
     for (size_t at = 0; at < words; at++) {
         uint64_t kept = pool[at];
         int a_mark = at < words - 6 && pool[at / 6 * 6] == 1 && at % 6 == 1;
-        pool[at] = a_mark ? ~kept : kept + 1;
+        pool[at] = a_mark ? ~kept : kept + (1ULL << 40);
         memcpy(before, pool, sizeof pool);
         if (sz_check(pool, words).code != SZ_DONE || !a_mark) {
             refused("check, a word changed", sz_check(pool, words), SZ_NOT_SOUND);
