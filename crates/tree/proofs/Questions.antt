@@ -14,7 +14,7 @@ use Rattle.model.specs.Marks.{access, count, further, ones, rank, select, wante
 use Rattle.model.specs.Tree as Tree
 use Rattle.model.specs.Tree.{Tree, marks, size}
 use Rattle.model.proofs.Content.{size-marks}
-use Rattle.model.proofs.Counting.{count-append, further-zero, further-further, select-some, select-below, ones-le, wanted-length}
+use Rattle.model.proofs.Counting.{count-append, count-both, further-zero, further-further, select-some, select-below, ones-le, wanted-length}
 use Rattle.model.proofs.Paths.{access-left, access-right, rank-left, rank-right, select-left, select-right, count-size}
 use Rattle.bits.specs.Leaf.{leaf-of, bits-of}
 use Rattle.bits.specs.Select.{placed}
@@ -123,9 +123,16 @@ pub rank-all : (t : Tree) (b : Bool) (len : ℕ) → size t ≡ len → rank b l
 unfolding rank
 rank-all t b len e = ap (count b) (take-all len (marks t) (omega (arith, size-marks t)))
 
--- how many of a kind there are, from the strikes before the end
-pub kind-all : (t : Tree) (b : Bool) (len : ℕ) → size t ≡ len → of-kind b len (rank true len (marks t)) ≡ count b (marks t)
-kind-all t b len e = rw (rank-all t true len e, ← e) (kind-count b t)
+-- no more strikes stand before a place than marks
+pub rank-within : (t : Tree) (end : ℕ) → rank true end (marks t) ≤ end
+unfolding rank
+rank-within t end = omega (arith, count-both (take end (marks t)), length-take end (marks t))
+
+-- how many of a kind stand before a place, from the strikes before it
+pub kind-rank : (t : Tree) (b : Bool) (end : ℕ) → end ≤ size t → of-kind b end (rank true end (marks t)) ≡ rank b end (marks t)
+unfolding rank
+kind-rank t true end h = refl
+kind-rank t false end h = omega (arith, count-both (take end (marks t)), length-take end (marks t), size-marks t)
 
 module _ {t₀ : Tree} {b : Bool} {k left before : ℕ} where
   -- in a leaf the mark is found, at a place that can be counted

@@ -29,7 +29,7 @@ pub enum Found {
 }
 
 // The leaf that a place leads to: left where it is below the left child's total, else right.
-pub fn reach(nodes: &[u64], root: u64, length: u64, place: u64) -> Spot
+fn reach(nodes: &[u64], root: u64, length: u64, place: u64) -> Spot
     requires { ⌜ ((t : Tree) × Rooted (now nodes) root 12 t × (size t ≡ length) × (place ≤ length)) ⌝ }
     ensures { λ r. ⌜ ((t : Tree) → Rooted (now (nodes .entry)) root 12 t → size t ≡ length → place ≤ length → Spotted t place r) ⌝ }
 {
@@ -91,7 +91,7 @@ pub fn access(nodes: &[u64], root: u64, length: u64, index: u64) -> bool
 }
 
 // How many strikes stand before a place.
-pub fn rank(nodes: &[u64], root: u64, length: u64, end: u64) -> u64
+fn strikes(nodes: &[u64], root: u64, length: u64, end: u64) -> u64
     requires { ⌜ ((t : Tree) × Rooted (now nodes) root 12 t × (size t ≡ length) × (end ≤ length)) ⌝ }
     ensures { λ r. ⌜ ((t : Tree) → Rooted (now (nodes .entry)) root 12 t → size t ≡ length → r ≡ Marks.rank true end (marks t)) ⌝ }
 {
@@ -111,12 +111,20 @@ fn wanted(total: u64, ones: u64, bit: bool) -> u64
     total - ones
 }
 
+// How many marks of a kind stand before a place.
+pub fn rank(nodes: &[u64], root: u64, length: u64, end: u64, bit: bool) -> u64
+    requires { ⌜ ((t : Tree) × Rooted (now nodes) root 12 t × (size t ≡ length) × (end ≤ length)) ⌝ }
+    ensures { λ r. ⌜ ((t : Tree) → Rooted (now (nodes .entry)) root 12 t → size t ≡ length → r ≡ Marks.rank bit end (marks t)) ⌝ }
+{
+    wanted(end, strikes(nodes, root, length, end), bit)
+}
+
 // The place of the k-th strike, or quiet frame, k from 1.
 pub fn select(nodes: &[u64], root: u64, length: u64, bit: bool, k: u64) -> Found
     requires { ⌜ ((t : Tree) × Rooted (now nodes) root 12 t × (size t ≡ length) × (1 ≤ k)) ⌝ }
     ensures { λ r. ⌜ ((t : Tree) → Rooted (now (nodes .entry)) root 12 t → size t ≡ length → r ≡ found-of (Marks.select bit k (marks t))) ⌝ }
 {
-    if wanted(length, rank(nodes, root, length, length), bit) < k {
+    if rank(nodes, root, length, length, bit) < k {
         return Found::TooFew;
     }
     select_below(nodes, root, bit, k)
