@@ -1,3 +1,4 @@
 pub mod Down
 pub mod Output
+pub mod Pinned
 pub mod Questions

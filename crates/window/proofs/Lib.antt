@@ -1,3 +1,4 @@
 pub mod Builds
 pub mod OneState
+pub mod Pinned
 pub mod Verdicts
