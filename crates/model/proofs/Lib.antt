@@ -1,3 +1,4 @@
+pub mod Apart
 pub mod Balance
 pub mod BalanceMended
 pub mod BuiltBalance

@@ -5,7 +5,7 @@ use native.Mathlib.Omega.{arith}
 use mathlib.Core.Path.{_≡_, refl}
 use mathlib.Core.Bool.{Bool}
 use mathlib.Core.List.{List, []}
-use Rattle.model.specs.Tree.{Tree, leaf, fork, height, renumber}
+use Rattle.model.specs.Tree.{Tree, leaf, fork, top, height, numbers, renumber}
 use Rattle.model.specs.Sound.{Balanced}
 use Rattle.model.specs.Edit.{put-before, put-after, drop-first, drop-last}
 
@@ -23,6 +23,25 @@ shape-height (fork n l r) = simp (shape-height l, shape-height r)
 -- trees of one shape are equally high
 pub alike-height : (t u : Tree) → shape t ≡ shape u → height t ≡ height u
 alike-height t u e = cc (shape-height t, shape-height u)
+
+-- a shape has its tree's numbers
+shape-numbers : (t : Tree) → numbers (shape t) ≡ numbers t
+unfolding shape numbers
+shape-numbers (leaf n xs) = refl
+shape-numbers (fork n l r) = simp (shape-numbers l, shape-numbers r)
+
+-- trees of one shape have the same numbers
+pub alike-numbers : (t u : Tree) → shape t ≡ shape u → numbers t ≡ numbers u
+alike-numbers t u e = cc (shape-numbers t, shape-numbers u)
+
+shape-top : (t : Tree) → top (shape t) ≡ top t
+unfolding shape top
+shape-top (leaf n xs) = refl
+shape-top (fork n l r) = refl
+
+-- and the same number at the top
+pub alike-top : (t u : Tree) → shape t ≡ shape u → top t ≡ top u
+alike-top t u e = cc (shape-top t, shape-top u)
 
 -- trees of one shape are balanced together
 pub alike-balanced : (t u : Tree) → shape t ≡ shape u → Balanced u → Balanced t

@@ -1,3 +1,4 @@
 pub mod Cells
+pub mod Once
 pub mod Pinned
 pub mod Standing

@@ -1,0 +1,4 @@
+pub mod Along
+pub mod Edits
+pub mod Ends
+pub mod Pinned
