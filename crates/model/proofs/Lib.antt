@@ -1,4 +1,3 @@
-pub mod Apart
 pub mod Balance
 pub mod BalanceMended
 pub mod BuiltBalance
@@ -9,6 +8,7 @@ pub mod Cases
 pub mod Content
 pub mod Counting
 pub mod Depth
+pub mod Distincts
 pub mod Leaves
 pub mod LeavesMended
 pub mod MarksEdits

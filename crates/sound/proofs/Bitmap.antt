@@ -16,7 +16,7 @@ use Rattle.model.specs.Word.{odd}
 use Rattle.model.proofs.Cases.{by-test, by-ltb}
 use Rattle.sound.specs.Met.{met-at, Fresh, Marked, Meets}
 use Rattle.sound.proofs.Answers.{never}
-use Rattle.sound.proofs.Distincts.{distinct-join, distinct-first, distinct-second, distinct-apart}
+use Rattle.model.proofs.Distincts.{distinct-join, distinct-first, distinct-second, distinct-apart}
 
 -- ---- one after the other
 

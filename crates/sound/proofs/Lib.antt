@@ -1,7 +1,6 @@
 pub mod Answers
 pub mod Bitmap
 pub mod Chains
-pub mod Distincts
 pub mod Padding
 pub mod Parts
 pub mod Pigeonhole

@@ -9,7 +9,7 @@ use Rattle.model.specs.Marks.{count}
 use Rattle.model.specs.Sound.{Distinct}
 use Rattle.model.specs.Tree as Tree
 use Rattle.model.specs.Tree.{Tree, top, marks, size, height, numbers}
-use Rattle.model.proofs.Apart.{distinct-first, distinct-second, distinct-apart}
+use Rattle.model.proofs.Distincts.{distinct-first, distinct-second, distinct-apart}
 use Rattle.model.proofs.Shape.{shape, alike-top, alike-height, alike-numbers}
 use Rattle.bits.specs.Leaf.{leaf-of}
 use Rattle.bits.specs.declared.leaf.Leaf.{Leaf}
@@ -42,7 +42,7 @@ module _ (m : ℕ) (l r : Tree) (once : Distinct (numbers (Tree.fork m l r))) wh
 
   not-both : (k : ℕ) → List·Memᴰ k (numbers l) → List·Memᴰ k (numbers r) → ⊥
   unfolding numbers
-  not-both k = distinct-apart k (numbers l) (numbers r) (once .1)
+  not-both k = distinct-apart (numbers l) (numbers r) (once .1) k
 
 -- ---- the children of a tree that may be edited may be edited
 

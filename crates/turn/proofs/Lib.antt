@@ -1,0 +1,6 @@
+pub mod Differences
+pub mod Evening
+pub mod Leaning
+pub mod Pinned
+pub mod Places
+pub mod Read

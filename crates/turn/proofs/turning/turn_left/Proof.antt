@@ -1,0 +1,62 @@
+-- The mirror image. Assumes nothing.
+use native.Mathlib.Omega.{arith}
+use borrow.Author.Needs.{needs}
+use mathlib.Core.Path.{_≡_, refl, ap, _∙_}
+use denote.Ref.{now}
+use Rattle.model.specs.Tree.{fork, height}
+use Rattle.model.specs.Turn.{turn-left}
+use Rattle.pool.specs.Layout.{fork-of}
+use Rattle.pool.specs.Node.{fork-in, node-at}
+use Rattle.turn.specs.Forks.{LeftForks, LeftOver}
+use Rattle.turn.specs.Words.{TurnsLeft}
+use Rattle.turn.proofs.Differences.{read}
+use Rattle.turn.proofs.Places.{left-words}
+use Rattle.turn.proofs.Read.{fields, fork-top, fork-size}
+use Rattle.turn.proofs.turning.turn_left.Statement.{statement}
+use Rattle.turn.proofs.turning.turn_left.Tie as tie
+
+abbrev Given : tie.Start → Type 0
+Given s = TurnsLeft (now (s .args .nodes)) (s .args .n)
+
+top-is : (c : tie.After-fork-at) (t : Given (c .before .before .before)) → c .fork-at .result ≡ fork-of (t .a) (fork (t .b) (t .c) (t .e))
+top-is c t = c .fork-at .ensures ∙ ap fork-in (t .stands .holds .0)
+
+child-at : (c : tie.After-fork-at) (t : Given (c .before .before .before)) → c .fork-at .result .right ≡ t .b
+child-at c t = fields _ (t .a) (fork (t .b) (t .c) (t .e)) (top-is c t) .right-is ∙ fork-top (t .b) (t .c) (t .e)
+
+forks : (c : tie.After-fork-at2) (t : Given (c .before .before .before .before .before)) → LeftForks (c .before .before .fork-at .result) (c .fork-at2 .result)
+forks c t =
+    let s = c .before .before .before .before .before in
+    record {
+      b = t .b;
+      a = t .a;
+      c = t .c;
+      e = t .e;
+      top-is = top-is (c .before .before) t;
+      child-is = c .fork-at2 .ensures ∙ ap fork-in (ap (node-at (now (s .args .nodes))) (child-at (c .before .before) t) ∙ t .stands .holds .2 .0);
+      leans = t .leans;
+      few = omega (arith, t .stands .few, fork-size (c .before .before .before .before .before .args .n) (t .a) (fork (t .b) (t .c) (t .e)), fork-size (t .b) (t .c) (t .e));
+    }
+
+left-forks-requires : tie.Need-left-forks-requires
+left-forks-requires c κs = forks c (c .before .before .before .before .before .pre)
+
+returns : tie.Need-returns
+unfolding forks height turn-left
+returns c = λ t.
+    let stores = c .before .before .before in
+    let r = stores .before .before in
+    let h = t .leans in
+    let over : LeftOver (r .left-forks .result) (t .b) (t .a) (t .c) (t .e) = r .left-forks .ensures (forks (r .before) t) in
+    record {
+      edited =
+          left-words _ _ _ refl (stores .put-forks .ensures)
+          t (child-at (r .before .before .before) t) (over .lowered-is) (over .risen-is);
+      change = read (r .left-forks .result .change) (over .change (r .before .before .before .before .before .before .args .n)) (omega arith) (omega arith);
+    }
+
+pub turn-left-spec : {M : Type 1} → statement M
+turn-left-spec =
+    tie.close
+    (tie.spec
+    (λ c κs. search needs) (λ c κs. search needs) left-forks-requires (λ c κs. search needs) (λ c. search needs) returns)

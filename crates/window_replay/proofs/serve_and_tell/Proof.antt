@@ -1,0 +1,22 @@
+-- `window_replay::serve_and_tell` is safe and ends: the calls leave the lengths as they were. Assumes nothing.
+use native.Mathlib.Omega.{arith}
+use borrow.Author.Needs.{needs}
+use Rattle.window_replay.proofs.serve_and_tell.Statement.{statement}
+use Rattle.window_replay.proofs.serve_and_tell.Tie as tie
+
+tell-requires : tie.Need-tell-requires
+tell-requires c κs =
+    let p = c .before .before .before .before .before .before .before .before .before .before .before .before .before .before .before .before .before .before .pre in
+    (omega (arith, p), (omega (arith, p), (omega (arith, p), (omega (arith, p .1 .1 .1 .1 .1 .0), (omega (arith, p .1 .1 .1 .1 .1 .1 .0), omega (arith, p .1 .1 .1 .1 .1 .1 .1))))))
+
+pub serve-and-tell-spec : {M : Type 1} → statement M
+serve-and-tell-spec =
+    tie.close
+    (tie.spec
+    (λ c κs. search needs)
+    (λ c. search needs)
+    tell-requires
+    (λ c. search needs)
+    (λ c. search needs)
+    (λ c. search needs)
+    (λ c. search needs))
