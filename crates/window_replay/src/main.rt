@@ -19,10 +19,11 @@
 ghost use Prim.Native.Nat.{_+_, _*_, _≤_};
 ghost use lib.ListN as ListN;
 
+mod answers;
 mod bytes;
 mod questions;
 
-use bytes::put_word;
+use answers::put_answer;
 use bytes::put_words;
 use bytes::read_words;
 use bytes::word_at;
@@ -41,37 +42,6 @@ const HEAD: usize = 64;
 const LISTS: usize = 7232;
 
 const TOLD: usize = 55456;
-
-fn code(answer: Answer) -> u64 {
-    match answer {
-        Answer::Done(_) => 0,
-        Answer::OutOfRange => 1,
-        Answer::NoZeroth => 2,
-        Answer::TooFew => 3,
-        Answer::Full => 4,
-        Answer::Malformed => 5,
-        Answer::WrongSize => 6,
-        Answer::NotSound => 7,
-        Answer::ShortOutput => 8,
-        Answer::PartOrder => 9,
-        Answer::TooLong => 10,
-        Answer::LeafLacks => 11,
-    }
-}
-
-fn value(answer: Answer) -> u64 {
-    match answer {
-        Answer::Done(v) => v,
-        _ => 0,
-    }
-}
-
-fn put_answer(told: &mut [u8], at: usize, answer: Answer)
-    requires { ⌜ at + 16 ≤ ListN.length (now told) ⌝ }
-{
-    put_word(told, at, code(answer));
-    put_word(told, at + 8, value(answer));
-}
 
 // Builds, and asks what was built. A pool of another size is refused by build, and is not asked.
 fn build_and_ask(
