@@ -65,6 +65,19 @@ fn row(length: usize, marks: &[u64]) {
     println!("{length:>8}{built:>12.0}{built_rust:>12.0}{written:>12.0}{written_rust:>12.0}{checked:>12.0}");
 }
 
+/// An insert and a remove by the published Rust at places all over the window, for a measure of what an edit costs.
+fn edit(length: usize, marks: &[u64]) -> f64 {
+    let blocks: Vec<u128> = marks.chunks(2).map(|w| u128::from(w[0]) | u128::from(w[1]) << 64).collect();
+    let mut vector = Vector::new(blocks, length);
+    let mut place = 0;
+    timed(|| {
+        place = (place + 7_919) % length;
+        black_box(vector.insert(place, true)).unwrap();
+        place = (place + 7_919) % length;
+        black_box(vector.remove(place)).unwrap();
+    }) / 2.0
+}
+
 fn main() {
     let mut state = 1u64;
     let marks: Vec<u64> = (0..512)
@@ -80,4 +93,5 @@ fn main() {
     for length in [1_875, 3_750, 7_500, 15_000, 30_000] {
         row(length, &marks);
     }
+    println!("an edit by the published Rust at 15000 marks: {:.0}", edit(15_000, &marks));
 }
