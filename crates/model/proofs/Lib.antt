@@ -9,6 +9,7 @@ pub mod Content
 pub mod Counting
 pub mod Depth
 pub mod Distincts
+pub mod Floor
 pub mod Leaves
 pub mod LeavesMended
 pub mod MarksEdits
@@ -17,8 +18,11 @@ pub mod NumbersFrom
 pub mod Paths
 pub mod PoolCases
 pub mod PoolNumbers
+pub mod PoolSound
 pub mod Rearranged
 pub mod Rounds
 pub mod Shape
 pub mod Table
+pub mod Tops
+pub mod TwoPools
 pub mod Words

@@ -1,4 +1,5 @@
 pub mod Cells
 pub mod Once
+pub mod OnceChained
 pub mod Pinned
 pub mod Standing

@@ -23,7 +23,7 @@ pub record Whole (n : ℕ) (w : List ℕ) : Type 0 where
   pub nodes : (k : ℕ) → k < n → node-at w k ≡ broken → ⊥
 
 -- a number stands in a list or not
-by-member : {P : Type 0} (k : ℕ) (ns : List ℕ) → (List·Memᴰ k ns → P) → ((List·Memᴰ k ns → ⊥) → P) → P
+pub by-member : {P : Type 0} (k : ℕ) (ns : List ℕ) → (List·Memᴰ k ns → P) → ((List·Memᴰ k ns → ⊥) → P) → P
 by-member k [] p q = q List·Memᴰ·not-nil
 by-member k (n ∷ ns) p q =
     by-test (eqb k n)
@@ -31,7 +31,7 @@ by-member k (n ∷ ns) p q =
     (λ e. by-member k ns (λ m. p (List·Memᴰ·tail m)) (λ out. q (λ m. ⊎-elim (eqb-false k n e) out (List·Memᴰ·cases-cons m))))
 
 -- at each of its numbers a tree has one node, whatever words hold it
-its-node : (t : Tree) (k : ℕ) → List·Memᴰ k (numbers t) → (x : Node) × (x ≡ broken → ⊥) × ((w : List ℕ) → Holds w t → node-at w k ≡ x)
+pub its-node : (t : Tree) (k : ℕ) → List·Memᴰ k (numbers t) → (x : Node) × (x ≡ broken → ⊥) × ((w : List ℕ) → Holds w t → node-at w k ≡ x)
 unfolding numbers
 its-node (Tree.leaf n xs) k m = (
   leaf (leaf-of xs),
