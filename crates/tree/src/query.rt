@@ -2,6 +2,8 @@
 ghost use mathlib.Core.Bool.{true, false};
 ghost use mathlib.Core.Path.{_≡_};
 ghost use Prim.Native.Nat.{_≤_, _<_};
+ghost use lib.ListN as ListN;
+ghost use Rattle.model.specs.Edit.{leaf-at};
 ghost use Rattle.model.specs.Marks as Marks;
 ghost use Rattle.model.specs.Tree.{Tree, marks, size};
 ghost use Rattle.pool.specs.Layout.{Rooted};
@@ -78,6 +80,15 @@ fn nowhere() -> Spot {
         at: 0,
         ones: 0,
     }
+}
+
+// How many marks the leaf holds that a place leads to.
+pub fn leaf_size(nodes: &[u64], root: u64, length: u64, place: u64) -> u64
+    requires { ⌜ ((t : Tree) × Rooted (now nodes) root 12 t × (size t ≡ length) × (place ≤ length)) ⌝ }
+    ensures { λ r. ⌜ ((t : Tree) → Rooted (now (nodes .entry)) root 12 t → size t ≡ length → place ≤ length → r ≡ ListN.length (leaf-at place t)) ⌝ }
+{
+    let spot = reach(nodes, root, length, place);
+    spot.length
 }
 
 // The mark at a place.
