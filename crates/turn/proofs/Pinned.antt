@@ -1,5 +1,5 @@
--- The public contract determines its result, and the nodes that the call leaves: two that it allows for the same arguments are equal, and so are
--- the words where all of them lie in nodes, none of which is broken. The law speaks of the contract as the check reads it off the source.
+-- Each public contract determines its result, and the nodes that the call leaves: two that it allows for the same arguments are equal, and so are
+-- the words where all of them lie in nodes, none of which is broken. The laws speak of the contracts as the check reads them off the source.
 use Prim.Native.Nat.{ℕ, _*_, _<_}
 use native.Mathlib.Omega.{arith}
 use mathlib.Core.Path.{_≡_, sym, ap, _∙_}
@@ -20,6 +20,7 @@ use Rattle.pool.specs.Node.{node-at}
 use Rattle.pool.specs.declared.node.Node.the-variants as Node
 use Rattle.pool.proofs.Cells.{same-nodes}
 use Rattle.turn.proofs.Differences.{one}
+use Rattle.turn.proofs.changed.child_changed.Reads as child-changed
 use Rattle.turn.proofs.turning.rebalance.Reads as rebalance
 
 member-or-not : (k : ℕ) (ns : List ℕ) → List·Memᴰ k ns ⊎ (List·Memᴰ k ns → ⊥)
@@ -79,3 +80,22 @@ module _ (κs : _) (a : _) (r r′ : _) (w w′ : _) (pre : rebalance.Pre κs a)
       let l = pre .0 in
       let x = pre .1 .0 in
       one-words _ _ _ _ (Turn.rebalance (a .1 .0) l x) (λ k. rearranged-member k _ _ (rebalance-numbers (a .1 .0) l x)) (p l x (pre .1 .1) .edited) (q l x (pre .1 .1) .edited)
+
+module _ (κs : _) (a : _) (r r′ : _) (w w′ : _) (pre : child-changed.Pre κs a) (p : child-changed.Post κs a r w) (q : child-changed.Post κs a r′ w′) where
+  pub child-changed-pinned : (r ≡ r′) × ((k : ℕ) → node-at (now (w .0)) k ≡ node-at (now (w′ .0)) k)
+  child-changed-pinned =
+      let l = pre .0 in
+      let x = pre .1 in
+      let s = p l x (pre .2) (pre .3) (pre .4) in
+      let t = q l x (pre .2) (pre .3) (pre .4) in (
+        one r r′ (s .change) (t .change),
+        one-node _ _ _ _ (Turn.rebalance (a .1 .0) l x) (λ k. rearranged-member k _ _ (rebalance-numbers (a .1 .0) l x)) (s .edited) (t .edited),
+      )
+
+  pub child-changed-words-pinned : (N : ℕ) → length (now (a .0)) ≡ 6 * N → ((k : ℕ) → k < N → node-at (now (a .0)) k ≡ Node.Broken → ⊥) → now (w .0) ≡ now (w′ .0)
+  child-changed-words-pinned =
+      let l = pre .0 in
+      let x = pre .1 in
+      let s = p l x (pre .2) (pre .3) (pre .4) in
+      let t = q l x (pre .2) (pre .3) (pre .4) in
+      one-words _ _ _ _ (Turn.rebalance (a .1 .0) l x) (λ k. rearranged-member k _ _ (rebalance-numbers (a .1 .0) l x)) (s .edited) (t .edited)

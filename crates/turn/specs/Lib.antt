@@ -1,3 +1,4 @@
 pub mod Apart
 pub mod Forks
+pub mod Sites
 pub mod Words
