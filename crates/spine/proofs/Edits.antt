@@ -24,23 +24,23 @@ use Rattle.spine.specs.Edges.{Editable, with-left}
 -- ---- each number of a fork stands once: the top's is none of the children's, and the left child's are none of the right child's
 
 module _ (m : ℕ) (l r : Tree) (once : Distinct (numbers (Tree.fork m l r))) where
-  once-left : Distinct (numbers l)
+  pub once-left : Distinct (numbers l)
   unfolding numbers
   once-left = distinct-first (numbers l) (numbers r) (once .1)
 
-  once-right : Distinct (numbers r)
+  pub once-right : Distinct (numbers r)
   unfolding numbers
   once-right = distinct-second (numbers l) (numbers r) (once .1)
 
-  top-not-left : (k : ℕ) → List·Memᴰ k (numbers l) → k ≡ m → ⊥
+  pub top-not-left : (k : ℕ) → List·Memᴰ k (numbers l) → k ≡ m → ⊥
   unfolding numbers
   top-not-left k h e = once .0 (Memᴰ·append-left (numbers r) (Memᴰ·cast (sym e) h))
 
-  top-not-right : (k : ℕ) → List·Memᴰ k (numbers r) → k ≡ m → ⊥
+  pub top-not-right : (k : ℕ) → List·Memᴰ k (numbers r) → k ≡ m → ⊥
   unfolding numbers
   top-not-right k h e = once .0 (Memᴰ·append-right (numbers l) (Memᴰ·cast (sym e) h))
 
-  not-both : (k : ℕ) → List·Memᴰ k (numbers l) → List·Memᴰ k (numbers r) → ⊥
+  pub not-both : (k : ℕ) → List·Memᴰ k (numbers l) → List·Memᴰ k (numbers r) → ⊥
   unfolding numbers
   not-both k = distinct-apart (numbers l) (numbers r) (once .1) k
 
@@ -67,7 +67,7 @@ fork-left f l l′ r total ones e s t o =
     λ i. record { left = tops i; right = e i .right; «left_total» = t i; «left_ones» = o i; balance = leans i }
 
 -- a right child: nothing changes
-fork-right : (l r r′ : Tree) → shape r′ ≡ shape r → fork-of l r ≡ fork-of l r′
+pub fork-right : (l r r′ : Tree) → shape r′ ≡ shape r → fork-of l r ≡ fork-of l r′
 unfolding fork-of
 fork-right l r r′ s = rw (alike-top r′ r s, alike-height r′ r s)
 

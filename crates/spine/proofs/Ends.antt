@@ -26,7 +26,7 @@ pub put-before-count : (ys : List Bool) (t : Tree) → count true (marks t) + co
 put-before-count ys t = omega (arith, ap (count true) (put-before-marks ys t), count-append true ys (marks t))
 
 -- a lone mark counts for itself
-count-one : (b : Bool) → count true (b ∷ []) ≡ bit-of b
+pub count-one : (b : Bool) → count true (b ∷ []) ≡ bit-of b
 unfolding count wanted ones
 count-one true = refl
 count-one false = refl
