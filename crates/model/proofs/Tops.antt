@@ -9,12 +9,12 @@ use Rattle.model.specs.Tree.{Tree, leaf, fork, top, size}
 use Rattle.model.specs.Turn.{turn-right, turn-left, leaning-left, leaning-right, rebalance}
 use Rattle.model.proofs.Cases.{insert-cases, rebalance-cases, settle-cases}
 
-turn-left-top : (n : ℕ) (a r : Tree) → top (turn-left (fork n a r)) ≡ n
+pub turn-left-top : (n : ℕ) (a r : Tree) → top (turn-left (fork n a r)) ≡ n
 unfolding top turn-left
 turn-left-top n a (leaf b xs) = refl
 turn-left-top n a (fork b c e) = refl
 
-turn-right-top : (n : ℕ) (l e : Tree) → top (turn-right (fork n l e)) ≡ n
+pub turn-right-top : (n : ℕ) (l e : Tree) → top (turn-right (fork n l e)) ≡ n
 unfolding top turn-right
 turn-right-top n (leaf b xs) e = refl
 turn-right-top n (fork b a c) e = refl

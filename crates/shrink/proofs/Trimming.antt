@@ -12,35 +12,21 @@ use Rattle.model.specs.Marks as Marks
 use Rattle.model.specs.Marks.{access, count}
 use Rattle.model.specs.Sound.{Balanced, Sized, Whole}
 use Rattle.model.specs.Tree.{Tree, leaf, fork, top, marks, size, height, numbers, renumber}
-use Rattle.model.specs.Turn.{rebalance, turn-left, turn-right, leaning-left, leaning-right}
+use Rattle.model.specs.Turn.{rebalance}
 use Rattle.model.proofs.BalanceMended.{remove-balanced}
-use Rattle.model.proofs.Cases.{rebalance-cases, remove-cases, mend-left-cases, mend-right-cases}
+use Rattle.model.proofs.Cases.{remove-cases, mend-left-cases, mend-right-cases}
 use Rattle.model.proofs.Content.{remove-marks, remove-size, size-marks}
 use Rattle.model.proofs.Counting.{count-append}
 use Rattle.model.proofs.Leaves.{small-leaf}
 use Rattle.model.proofs.Numbers.{remove-numbers}
 use Rattle.model.proofs.Rearranged.{weigh-append, rearranged-sym, rearranged-member}
+use Rattle.model.proofs.Tops.{rebalance-top}
 use Rattle.spine.specs.Edges.{bit-of}
 use Rattle.spine.proofs.Ends.{count-one}
 use Rattle.turn.specs.Sites.{side}
 use Rattle.turn.proofs.Sites.{Altered}
 
 -- ---- the top number stays
-
-left-top : (n : ℕ) (a r : Tree) → top (turn-left (fork n a r)) ≡ n
-unfolding top turn-left
-left-top n a (leaf b xs) = refl
-left-top n a (fork b c e) = refl
-
-right-top : (n : ℕ) (l e : Tree) → top (turn-right (fork n l e)) ≡ n
-unfolding top turn-right
-right-top n (leaf b xs) e = refl
-right-top n (fork b a c) e = refl
-
-rebalance-top : (n : ℕ) (l r : Tree) → top (rebalance n l r) ≡ n
-unfolding top
-rebalance-top n l r =
-    rebalance-cases (λ (t : Tree). top t ≡ n) n l r (λ _. right-top n (leaning-left l) r) (λ _. left-top n l (leaning-right r)) (λ _ _. refl)
 
 renumber-top : (n : ℕ) (t : Tree) → top (renumber n t) ≡ n
 unfolding top renumber

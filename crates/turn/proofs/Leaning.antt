@@ -8,6 +8,7 @@ use Rattle.model.specs.Turn.{turn-right, turn-left, leaning-left, leaning-right
 use Rattle.model.proofs.Cases.{leaning-left-cases, leaning-right-cases}
 use Rattle.model.proofs.Content.{leaning-left-marks, leaning-right-marks}
 use Rattle.model.proofs.Numbers.{numbers-weight, leaning-left-weight, leaning-right-weight}
+use Rattle.model.proofs.Tops.{turn-left-top, turn-right-top}
 use Rattle.turn.specs.Forks.{Leans}
 
 -- the balance that is read for a tree, as it is stored; a leaf does not lean
@@ -72,25 +73,15 @@ unfolding height turn-right
 right-height n (leaf b xs) e bal h = absurd (omega arith)
 right-height n (fork b a c) e bal h = omega arith
 
-left-top : (n : ℕ) (a r : Tree) → top (turn-left (fork n a r)) ≡ n
-unfolding top turn-left
-left-top n a (leaf b xs) = refl
-left-top n a (fork b c e) = refl
-
-right-top : (n : ℕ) (l e : Tree) → top (turn-right (fork n l e)) ≡ n
-unfolding top turn-right
-right-top n (leaf b xs) e = refl
-right-top n (fork b a c) e = refl
-
 leaning-left-top : (t : Tree) → top (leaning-left t) ≡ top t
 unfolding top leaning-left
 leaning-left-top (leaf n xs) = refl
-leaning-left-top (fork n l r) = leaning-left-cases (λ (t : Tree). top t ≡ n) n l r (λ _. left-top n l r) (λ _. refl)
+leaning-left-top (fork n l r) = leaning-left-cases (λ (t : Tree). top t ≡ n) n l r (λ _. turn-left-top n l r) (λ _. refl)
 
 leaning-right-top : (t : Tree) → top (leaning-right t) ≡ top t
 unfolding top leaning-right
 leaning-right-top (leaf n xs) = refl
-leaning-right-top (fork n l r) = leaning-right-cases (λ (t : Tree). top t ≡ n) n l r (λ _. right-top n l r) (λ _. refl)
+leaning-right-top (fork n l r) = leaning-right-cases (λ (t : Tree). top t ≡ n) n l r (λ _. turn-right-top n l r) (λ _. refl)
 
 leaning-left-height : (t : Tree) → Balanced t → height (leaning-left t) ≡ height t
 unfolding leaning-left
