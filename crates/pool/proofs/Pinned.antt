@@ -2,7 +2,6 @@
 -- words so are the words afterwards. `Post` takes the lifetimes, the arguments, the result and what the call leaves behind references.
 use mathlib.Core.Path.{_≡_, sym, _∙_}
 use denote.Ref.{now}
-use Rattle.pool.proofs.chain.give_back.Reads as give-back
 use Rattle.pool.proofs.chain.next_free.Reads as next-free
 use Rattle.pool.proofs.node.fork_at.Reads as fork-at
 use Rattle.pool.proofs.node.leaf_at.Reads as leaf-at
@@ -39,6 +38,3 @@ set-fork-pinned κs a r r′ w w′ p q = p ∙ sym q
 
 pub move-node-pinned : (κs : _) (a : _) (r r′ : _) (w w′ : _) → move-node.Post κs a r w → move-node.Post κs a r′ w′ → now (w .0) ≡ now (w′ .0)
 move-node-pinned κs a r r′ w w′ p q = p ∙ sym q
-
-pub give-back-pinned : (κs : _) (a : _) (r r′ : _) (w w′ : _) → give-back.Post κs a r w → give-back.Post κs a r′ w′ → (r ≡ r′) × (now (w .0) ≡ now (w′ .0))
-give-back-pinned κs a r r′ w w′ p q = ((λ i. record { first = (p .0 ∙ sym (q .0)) i; count = (p .1 ∙ sym (q .1)) i }), p .2 ∙ sym (q .2))

@@ -1,11 +1,9 @@
 // The chain of free nodes: each holds the number of the next, and the last holds the number of nodes.
 ghost use mathlib.Core.Path.{_≡_};
-ghost use Prim.Native.Nat.{_+_, _<_, _^_};
-ghost use Rattle.pool.specs.Node.{free-cell, next-in, node-at, nodes-in, put};
+ghost use Rattle.pool.specs.Node.{next-in, node-at, nodes-in};
 use crate::node::Node;
 use crate::node::node_at;
 use crate::node::node_count;
-use crate::node::set_free;
 
 // The first free number and how many there are.
 pub struct Chain {
@@ -22,17 +20,5 @@ pub fn next_free(nodes: &[u64], n: u64) -> u64
         Node::Leaf(_) => node_count(nodes),
         Node::Fork(_) => node_count(nodes),
         Node::Broken => node_count(nodes),
-    }
-}
-
-// The chain with n put first.
-pub fn give_back(nodes: &mut [u64], chain: Chain, n: u64) -> Chain
-    requires { ⌜ chain .count + 1 < 2 ^ 64 ⌝ }
-    ensures { λ r. ⌜ (r .first ≡ n) × (r .count ≡ chain .count + 1) × (now (nodes .exit) ≡ put (now (nodes .entry)) n (free-cell (chain .first))) ⌝ }
-{
-    set_free(nodes, n, chain.first);
-    Chain {
-        first: n,
-        count: chain.count + 1,
     }
 }

@@ -4,7 +4,6 @@ mod chain;
 mod node;
 
 pub use chain::Chain;
-pub use chain::give_back;
 pub use chain::next_free;
 pub use node::Fork;
 pub use node::Node;
