@@ -9,7 +9,7 @@ use mathlib.Core.Logic.{_⊎_, inl, inr, ⊎-elim}
 use borrow.Author.Tests.{ltb-true, ltb-false, lt-ltb, le-ltb}
 use lib.Dec.{ltb}
 use lib.ListN.{length, getD, set, length-set}
-use lib.Seq.{sets, length-sets, getD-set-same, getD-set-other, ext-getD}
+use lib.Seq.{sets, length-sets, getD-set-same, getD-set-other, set-getD, ext-getD}
 use Rattle.bits.specs.declared.leaf.Leaf.{Leaf}
 use Rattle.pool.specs.Node.{free-cell, leaf-cell, fork-cell, of-kind, node-of, nodes-in, cell-at, node-at, put, Put}
 use Rattle.pool.specs.declared.node.Cell.{Cell}
@@ -184,6 +184,29 @@ module _ (w : List ℕ) (n : ℕ) where
 
   pub free-says : (k : ℕ) → node-at w n ≡ free k → (n < nodes-in w) × (cell-at w n ≡ free-cell k)
   free-says k = says (free k) (λ b. let z : _≡_ {A = ℕ} 0 1 = cc in omega arith)
+
+-- ---- two words of a fork
+
+-- a word that is set to what it is
+kept : (w : List ℕ) (i x : ℕ) → getD w i 0 ≡ x → set w i x ≡ w
+kept w i x e = ap (set w i) (sym e) ∙ set-getD w i 0
+
+-- setting what a fork says of its left child is putting the fork that says so
+pub put-left : (w : List ℕ) (n : ℕ) (f : Fork) (total ones : ℕ) → node-at w n ≡ fork f
+    → set (set w (n * 6 + 3) total) (n * 6 + 4) ones
+    ≡ put w n (fork-cell (record { left = f .left; right = f .right; «left_total» = total; «left_ones» = ones; balance = f .balance }))
+unfolding put
+put-left w n f total ones e =
+    let s = fork-says w n f e in
+    let v : List ℕ = set (set w (n * 6 + 3) total) (n * 6 + 4) ones in
+    let e0 : set w (n * 6) 2 ≡ w = kept w (n * 6) 2 (ap (λ (x : Cell). x .kind) (s .1)) in
+    let e1 : set w (n * 6 + 1) (f .left) ≡ w = kept w (n * 6 + 1) (f .left) (ap (λ (x : Cell). x .a) (s .1)) in
+    let e2 : set w (n * 6 + 2) (f .right) ≡ w = kept w (n * 6 + 2) (f .right) (ap (λ (x : Cell). x .b) (s .1)) in
+    let e5 : set v (n * 6 + 5) (f .balance) ≡ v =
+    kept v (n * 6 + 5) (f .balance)
+    (getD-set-other (set w (n * 6 + 3) total) (n * 6 + 4) (n * 6 + 5) ones 0 (λ q. omega arith)
+    ∙ getD-set-other w (n * 6 + 3) (n * 6 + 5) total 0 (λ q. omega arith) ∙ ap (λ (x : Cell). x .e) (s .1)) in
+    rw (put, lt-ltb n (nodes-in w) (s .0), e0, e1, e2, e5)
 
 -- ---- words of whole nodes
 

@@ -5,6 +5,7 @@ use denote.Ref.{now}
 use Rattle.pool.proofs.chain.next_free.Reads as next-free
 use Rattle.pool.proofs.node.fork_at.Reads as fork-at
 use Rattle.pool.proofs.node.leaf_at.Reads as leaf-at
+use Rattle.pool.proofs.node.less_left.Reads as less-left
 use Rattle.pool.proofs.node.move_node.Reads as move-node
 use Rattle.pool.proofs.node.node_at.Reads as node-at
 use Rattle.pool.proofs.node.node_count.Reads as node-count
@@ -38,3 +39,6 @@ set-fork-pinned κs a r r′ w w′ p q = p ∙ sym q
 
 pub move-node-pinned : (κs : _) (a : _) (r r′ : _) (w w′ : _) → move-node.Post κs a r w → move-node.Post κs a r′ w′ → now (w .0) ≡ now (w′ .0)
 move-node-pinned κs a r r′ w w′ p q = p ∙ sym q
+
+pub less-left-pinned : (κs : _) (a : _) (r r′ : _) (w w′ : _) → less-left.Pre κs a → less-left.Post κs a r w → less-left.Post κs a r′ w′ → now (w .0) ≡ now (w′ .0)
+less-left-pinned κs a r r′ w w′ t p q = p (t .0) (t .1) ∙ sym (q (t .0) (t .1))

@@ -3,7 +3,7 @@
 --     free        0, next free number, 0, 0, 0, 0
 --     leaf        1, low word, high word, 0, 0, 0
 --     fork        2, left, right, left total, left ones, balance + 2
-use Prim.Native.Nat.{ℕ, zero, suc, _+_, _*_, _/_}
+use Prim.Native.Nat.{ℕ, zero, suc, _+_, _-_, _*_, _/_}
 use mathlib.Core.Path.{_≡_}
 use mathlib.Core.Bool.{true, false}
 use mathlib.Core.List.{List}
@@ -75,6 +75,11 @@ put w n x =
       | true ↦ set (set (set (set (set (set w at (x .kind)) (at + 1) (x .a)) (at + 2) (x .b)) (at + 3) (x .c)) (at + 4) (x .d)) (at + 5) (x .e)
       | false ↦ w
     ]
+
+-- a fork whose left child has so many marks less, so many of them strikes
+abbrev pub less-left : Fork → ℕ → ℕ → Fork
+less-left f total ones =
+    record { left = f .left; right = f .right; «left_total» = f .«left_total» - total; «left_ones» = f .«left_ones» - ones; balance = f .balance }
 
 -- all that is known of a store: w′ is w but for node n, which is x in it
 pub record Put (w w′ : List ℕ) (n : ℕ) (x : Node) : Type 0 where

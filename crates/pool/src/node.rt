@@ -6,8 +6,9 @@
 //     fork        2, left, right, left total, left ones, balance + 2
 use bits::Leaf;
 ghost use mathlib.Core.Path.{_≡_};
-ghost use Prim.Native.Nat.{_<_};
-ghost use Rattle.pool.specs.Node.{cell-at, fork-cell, fork-in, free-cell, if-zero, leaf-cell, leaf-in, node-at, node-of, nodes-in, of-kind, put, put-node};
+ghost use Prim.Native.Nat.{_+_, _-_, _*_, _<_, _≤_};
+ghost use lib.ListN.{getD, set};
+ghost use Rattle.pool.specs.Node.{cell-at, fork-cell, fork-in, free-cell, if-zero, leaf-cell, leaf-in, less-left, node-at, node-of, nodes-in, of-kind, put, put-node};
 
 // The words of a node.
 const NODE_WORDS: u64 = 6;
@@ -234,6 +235,26 @@ pub fn set_fork(nodes: &mut [u64], n: u64, fork: Fork)
             e: fork.balance,
         },
     );
+}
+
+// Lowers the fourth and the fifth word of node n.
+fn lower_left(nodes: &mut [u64], n: u64, total: u64, ones: u64)
+    requires { ⌜ (n < nodes-in (now nodes)) × (total ≤ getD (now nodes) (n * 6 + 3) 0) × (ones ≤ getD (now nodes) (n * 6 + 4) 0) ⌝ }
+    ensures { λ _. ⌜ now (nodes .exit) ≡ set (set (now (nodes .entry)) (n * 6 + 3) (getD (now (nodes .entry)) (n * 6 + 3) 0 - total)) (n * 6 + 4) (getD (now (nodes .entry)) (n * 6 + 4) 0 - ones) ⌝ }
+{
+    let at = (n * NODE_WORDS) as usize;
+    let marks = nodes[at + 3];
+    let strikes = nodes[at + 4];
+    nodes[at + 3] = marks - total;
+    nodes[at + 4] = strikes - ones;
+}
+
+// Takes so many marks, so many of them strikes, off what the fork at n says of its left child. Only these two words are written.
+pub fn less_left(nodes: &mut [u64], n: u64, total: u64, ones: u64)
+    requires { ⌜ ((f : Fork) × (node-at (now nodes) n ≡ Node.Fork f) × (total ≤ f .«left_total») × (ones ≤ f .«left_ones»)) ⌝ }
+    ensures { λ _. ⌜ ((f : Fork) → node-at (now (nodes .entry)) n ≡ Node.Fork f → now (nodes .exit) ≡ put (now (nodes .entry)) n (fork-cell (less-left f total ones))) ⌝ }
+{
+    lower_left(nodes, n, total, ones);
 }
 
 // Puts a copy of a tree's node at another number.

@@ -42,7 +42,7 @@ use Rattle.turn.specs.Apart.{Apart}
 use Rattle.turn.specs.Sites.{After, Leveled, Stale, fork-at-heights, side}
 use Rattle.turn.proofs.Differences.{held, equal, none}
 use Rattle.turn.proofs.Sites.{Altered, Around, by-leaf-at, by-fork-at, site-child, around-last, top-apart, top-past, child-member, fork-rearranged, stale, after-leveled, after-level}
-use Rattle.shrink.specs.Mending.{Counted, Mended, ToMend, mended, one-less}
+use Rattle.shrink.specs.Mending.{Counted, Mended, ToMend, mended, one-less, ToUncount}
 use Rattle.shrink.specs.Removing.{Gone, ToRemove}
 use Rattle.shrink.proofs.Parts.{in-top, wider}
 use Rattle.shrink.proofs.Trimming.{Lessened, mend-at, mend-kept, remove-alters, remove-count, remove-top, small-lessened}
@@ -289,10 +289,14 @@ module _ {w : List ℕ} {n levels end head total index : ℕ} {f : Fork} (s : St
       marked = gone .mark ∙ sym (way .mark-same)
 
     -- the totals have the mark still
-    pub counted-below : (t : Tree) → ToRemove w n levels end head total index t free → Counted (fork-in (node-at v n)) (s .left) b
+    pub counted-below : (t : Tree) → ToRemove w n levels end head total index t free → ToUncount v n (s .left) b
     counted-below =
-        at-fork (λ _. Counted (fork-in (node-at v n)) (s .left) b)
-        (λ l r q e. rw (stays l r q e) (counted (s .left) f (s .index) b l r e (in-child l r q e) (gone l r q e .mark)))
+        at-fork (λ _. ToUncount v n (s .left) b)
+        (λ l r q e. record {
+          f = f;
+          says = stays l r q e;
+          counted = counted (s .left) f (s .index) b l r e (in-child l r q e) (gone l r q e .mark);
+        })
 
     module _ {v′ : List ℕ} (stored : v′ ≡ put v n (fork-cell (one-less (fork-in (node-at v n)) (s .left) b))) where
       module _ (l r : Tree) (q : ToRemove w n levels end head total index (fork n l r) free) (e : f ≡ fork-of l r) where

@@ -27,6 +27,12 @@ one-less f left bit = with-left f (f .«left_total» - bit-of left) (f .«left_o
 abbrev pub Counted : Fork → Bool → Bool → Type 0
 Counted f left bit = (bit-of left ≤ f .«left_total») × (bit-of (left && bit) ≤ f .«left_ones»)
 
+-- node n is a fork whose totals have the mark still
+pub record ToUncount (w : List ℕ) (n : ℕ) (left bit : Bool) : Type 0 where
+  pub f : Fork
+  pub says : node-at w n ≡ fork f
+  pub counted : Counted f left bit
+
 -- The fork f at n over l and r, each no deeper than so many levels. No number stands twice in them.
 pub record Over (w : List ℕ) (n levels : ℕ) (f : Fork) (l r : Tree) : Type 0 where
   pub says : node-at w n ≡ fork f

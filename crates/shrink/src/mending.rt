@@ -11,11 +11,12 @@ ghost use Rattle.bits.specs.Leaf.{leaf-of};
 ghost use Rattle.pool.specs.Layout.{Edited};
 ghost use Rattle.pool.specs.Node.{fork-cell, fork-in, free-cell, node-at, put};
 ghost use Rattle.spine.specs.Edges.{bit-of};
-ghost use Rattle.shrink.specs.Mending.{Counted, Mended, ToBorrowFirst, ToBorrowLast, ToMend, ToMergeLeft, ToMergeRight, one-less, one-more};
+ghost use Rattle.shrink.specs.Mending.{Counted, Mended, ToBorrowFirst, ToBorrowLast, ToMend, ToMergeLeft, ToMergeRight, ToUncount, one-less, one-more};
 use bits::Leaf;
 use pool::Fork;
 use pool::fork_at;
 use pool::leaf_at;
+use pool::less_left;
 use pool::move_node;
 use pool::set_fork;
 use pool::set_free;
@@ -72,11 +73,10 @@ fn uncounted(fork: Fork, left: bool, bit: bool) -> Fork
 
 // The fork at n has one mark less, in its left child or in its right one.
 pub fn uncount(nodes: &mut [u64], n: u64, left: bool, bit: bool)
-    requires { ⌜ Counted (fork-in (node-at (now nodes) n)) left bit ⌝ }
+    requires { ⌜ ToUncount (now nodes) n left bit ⌝ }
     ensures { λ _. ⌜ now (nodes .exit) ≡ put (now (nodes .entry)) n (fork-cell (one-less (fork-in (node-at (now (nodes .entry)) n)) left bit)) ⌝ }
 {
-    let fork = fork_at(nodes, n);
-    set_fork(nodes, n, uncounted(fork, left, bit));
+    less_left(nodes, n, left as u64, (left & bit) as u64);
 }
 
 // The left child, a leaf, is joined to the first leaf of the right one, whose content moves to the number n.
