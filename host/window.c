@@ -1,5 +1,5 @@
-/* A C host: builds windows, reads them back, damages them, and says where an answer is not the one that the scope gives. It prints one line
- * and ends with 0 where every answer was right. */
+/* A C host: builds windows, reads them back, damages them, runs orders on them, and says where an answer is not the one that the scope
+ * gives. It prints one line and ends with 0 where every answer was right. */
 #include <stdio.h>
 #include <string.h>
 
@@ -8,10 +8,19 @@
 #define MOST_NODES 1023
 #define POOL_WORDS SZ_POOL_WORDS(MOST_NODES)
 #define MARK_WORDS 512
+#define LIST 4096
+#define ORDERS 200
 #define SPARE 0x5a5a5a5a5a5a5a5aULL
 
-static uint64_t pool[POOL_WORDS], before[POOL_WORDS], marks[MARK_WORDS], out[MARK_WORDS + 2];
+static uint64_t pool[POOL_WORDS], before[POOL_WORDS], marks[MARK_WORDS], out[MARK_WORDS + 2], orders[3 * ORDERS];
+static unsigned char list[LIST];
+static uint64_t listed, state = 1;
 static unsigned asked, wrong;
+
+static uint64_t drawn(void) {
+    state = state * 6364136223846793005ULL + 1442695040888963407ULL;
+    return state ^ state >> 29;
+}
 
 /* Holds an answer to the code and the value that it is to have. */
 static void holds(const char *what, sz_answer got, uint64_t code, uint64_t value) {
@@ -136,12 +145,227 @@ static void sizes(void) {
     refused("no room", sz_build(pool, 12, marks, 2, 65), SZ_FULL);
 }
 
-int main(void) {
-    uint64_t state = 1;
-    for (size_t i = 0; i < MARK_WORDS; i++) {
-        state = state * 6364136223846793005ULL + 1442695040888963407ULL;
-        marks[i] = state ^ state >> 29;
+/* ---- a run, beside a plain list of marks */
+
+static sz_answer answer(uint64_t code, uint64_t value) {
+    sz_answer a = {code, value};
+    return a;
+}
+
+static sz_answer list_insert(uint64_t at, uint64_t mark) {
+    if (at > listed)
+        return answer(SZ_OUT_OF_RANGE, 0);
+    memmove(list + at + 1, list + at, listed - at);
+    list[at] = (unsigned char)mark;
+    listed++;
+    return answer(SZ_DONE, 0);
+}
+
+static sz_answer list_mark(uint64_t at, int taken) {
+    if (at >= listed)
+        return answer(SZ_OUT_OF_RANGE, 0);
+    uint64_t mark = list[at];
+    if (taken) {
+        listed--;
+        memmove(list + at, list + at + 1, listed - at);
     }
+    return answer(SZ_DONE, mark);
+}
+
+static sz_answer list_rank(uint64_t place, uint64_t mark) {
+    uint64_t count = 0;
+    if (place > listed)
+        return answer(SZ_OUT_OF_RANGE, 0);
+    for (uint64_t i = 0; i < place; i++)
+        count += list[i] == mark;
+    return answer(SZ_DONE, count);
+}
+
+static sz_answer list_select(uint64_t k, uint64_t mark) {
+    uint64_t count = 0;
+    if (k == 0)
+        return answer(SZ_NO_ZEROTH, 0);
+    for (uint64_t i = 0; i < listed; i++) {
+        count += list[i] == mark;
+        if (count == k)
+            return answer(SZ_DONE, i);
+    }
+    return answer(SZ_TOO_FEW, 0);
+}
+
+static sz_answer list_quiet(void) {
+    uint64_t most = 0, quiet = 0;
+    int struck = 0;
+    for (uint64_t i = 0; i < listed; i++) {
+        quiet++;
+        if (list[i]) {
+            if (struck && quiet - 1 > most)
+                most = quiet - 1;
+            struck = 1;
+            quiet = 0;
+        }
+    }
+    return answer(SZ_DONE, most);
+}
+
+/* What the list answers to an order, and becomes. */
+static sz_answer list_answer(const uint64_t *order) {
+    uint64_t second = order[1], third = order[2];
+    switch (order[0]) {
+    case SZ_INSERT:
+        return third > 1 ? answer(SZ_MALFORMED, 0) : list_insert(second, third);
+    case SZ_REMOVE:
+        return third > 0 ? answer(SZ_MALFORMED, 0) : list_mark(second, 1);
+    case SZ_ACCESS:
+        return third > 0 ? answer(SZ_MALFORMED, 0) : list_mark(second, 0);
+    case SZ_RANK:
+        return third > 1 ? answer(SZ_MALFORMED, 0) : list_rank(second, third);
+    case SZ_SELECT:
+        return third > 1 ? answer(SZ_MALFORMED, 0) : list_select(second, third);
+    case SZ_QUIET:
+        return second > 0 || third > 0 ? answer(SZ_MALFORMED, 0) : list_quiet();
+    default:
+        return answer(SZ_MALFORMED, 0);
+    }
+}
+
+static void order(size_t i, uint64_t number, uint64_t second, uint64_t third) {
+    orders[3 * i] = number;
+    orders[3 * i + 1] = second;
+    orders[3 * i + 2] = third;
+}
+
+static void answered(const char *what, size_t i, uint64_t code, uint64_t value) {
+    holds(what, answer(out[2 * i], out[2 * i + 1]), code, value);
+}
+
+/* Serves so many of the orders, with two words of output too many. */
+static void run(const char *what, size_t words, size_t count) {
+    spoil(out, MARK_WORDS + 2);
+    holds(what, sz_run(pool, words, orders, 3 * count, out, 2 * count + 2), SZ_DONE, count);
+    is("the word after the answers", out[2 * count], SPARE);
+    if (words < POOL_WORDS)
+        is("the word after the pool", pool[words], SPARE);
+}
+
+/* Serves so many of the orders, each answered as the list answers it. */
+static void run_beside_the_list(size_t words, size_t count) {
+    run("run", words, count);
+    for (size_t i = 0; i < count; i++) {
+        sz_answer want = list_answer(orders + 3 * i);
+        answered("an order", i, want.code, want.value);
+    }
+    holds("check after run", sz_check(pool, words), SZ_DONE, listed);
+}
+
+static void read_beside_the_list(size_t words) {
+    holds("values after run", sz_values(pool, words, out, MARK_WORDS), SZ_DONE, words_for(listed));
+    for (uint64_t i = 0; i < listed; i++)
+        is("a mark after run", out[i / 64] >> i % 64 & 1, list[i]);
+}
+
+/* Each kind of order once, on five marks and none, and what is no order. */
+static void each_order(void) {
+    size_t words = SZ_POOL_WORDS(3);
+    spoil(pool, POOL_WORDS);
+    sz_build(pool, words, marks, 0, 0);
+    for (size_t i = 0; i < 5; i++)
+        order(i, SZ_INSERT, i, i % 3 == 0);
+    run("inserts", words, 5);
+    for (size_t i = 0; i < 5; i++)
+        answered("insert", i, SZ_DONE, 0);
+    /* 1 0 0 1 0 */
+    order(0, SZ_QUIET, 0, 0);
+    order(1, SZ_ACCESS, 3, 0);
+    order(2, SZ_RANK, 5, 0);
+    order(3, SZ_SELECT, 2, 1);
+    order(4, SZ_REMOVE, 3, 0);
+    order(5, SZ_SELECT, 2, 1);
+    order(6, SZ_SELECT, 0, 1);
+    order(7, SZ_ACCESS, 4, 0);
+    order(8, SZ_INSERT, 5, 1);
+    order(9, SZ_INSERT, 4, 2);
+    order(10, SZ_REMOVE, 0, 1);
+    order(11, SZ_QUIET, 0, 1);
+    order(12, 0, 0, 0);
+    order(13, 7, 0, 0);
+    order(14, SZ_RANK, 4, 1);
+    const uint64_t want[] = {0, 2, 0, 1, 0, 3, 0, 3, 0, 1, 3, 0, 2, 0, 1, 0, 1, 0, 5, 0, 5, 0, 5, 0, 5, 0, 5, 0, 0, 1};
+    run("each order", words, 15);
+    same("the answers", out, want, 30);
+    holds("check after each order", sz_check(pool, words), SZ_DONE, 4);
+}
+
+/* A leaf of 127 marks and no node free: an insert is answered Full and changes nothing, and what comes after it is served. */
+static void full(void) {
+    size_t words = SZ_POOL_WORDS(2);
+    spoil(pool, POOL_WORDS);
+    sz_build(pool, words, marks, 0, 0);
+    for (size_t i = 0; i < 127; i++)
+        order(i, SZ_INSERT, i, 1);
+    run("127 inserts", words, 127);
+    memcpy(before, pool, sizeof pool);
+    order(0, SZ_INSERT, 64, 0);
+    order(1, SZ_INSERT, 128, 0);
+    order(2, SZ_RANK, 127, 1);
+    run("full", words, 3);
+    answered("full", 0, SZ_FULL, 0);
+    answered("out of range before full", 1, SZ_OUT_OF_RANGE, 0);
+    answered("the rank after full", 2, SZ_DONE, 127);
+    same("full: the pool", pool, before, POOL_WORDS);
+    order(0, SZ_REMOVE, 64, 0);
+    order(1, SZ_INSERT, 64, 0);
+    run("room again", words, 2);
+    answered("a remove makes room", 0, SZ_DONE, 1);
+    answered("an insert takes it", 1, SZ_DONE, 0);
+    holds("check after full", sz_check(pool, words), SZ_DONE, 127);
+}
+
+/* The tests of a run, in their sequence. */
+static void run_refusals(void) {
+    size_t words = SZ_POOL_WORDS(9);
+    spoil(pool, POOL_WORDS);
+    sz_build(pool, words, marks, MARK_WORDS, 300);
+    order(0, SZ_INSERT, 0, 1);
+    order(1, SZ_REMOVE, 0, 0);
+    spoil(out, MARK_WORDS + 2);
+    memcpy(before, pool, sizeof pool);
+    refused("run, a word too few", sz_run(pool, words - 1, orders, 4, out, 0), SZ_WRONG_SIZE);
+    refused("run, part of an order", sz_run(pool, words, orders, 4, out, 1), SZ_PART_ORDER);
+    refused("run, part of an order", sz_run(pool, words, orders, 5, out, 4), SZ_PART_ORDER);
+    refused("run, too short", sz_run(pool, words, orders, 6, out, 3), SZ_SHORT_OUTPUT);
+    holds("run, no order", sz_run(pool, words, orders, 0, out, 0), SZ_DONE, 0);
+    same("run, no order: the pool", pool, before, POOL_WORDS);
+    pool[words - 1] = 1;
+    memcpy(before, pool, sizeof pool);
+    refused("run, part and damaged", sz_run(pool, words, orders, 5, out, 4), SZ_PART_ORDER);
+    refused("run, short and damaged", sz_run(pool, words, orders, 6, out, 3), SZ_SHORT_OUTPUT);
+    refused("run, damaged", sz_run(pool, words, orders, 6, out, 4), SZ_NOT_SOUND);
+    refused("run, no order and damaged", sz_run(pool, words, orders, 0, out, 0), SZ_NOT_SOUND);
+    for (size_t i = 0; i < 4; i++)
+        is("run, refused: the output", out[i], SPARE);
+}
+
+/* Many orders of every kind, and some that are none: the window grows at first and shrinks then. */
+static void many_orders(void) {
+    spoil(pool, POOL_WORDS);
+    sz_build(pool, POOL_WORDS, marks, 0, 0);
+    listed = 0;
+    for (unsigned turn = 0; turn < 60; turn++) {
+        for (size_t i = 0; i < ORDERS; i++) {
+            uint64_t number = drawn() % 2 ? drawn() % 8 : turn < 30 ? SZ_INSERT : SZ_REMOVE;
+            int bare = number == SZ_REMOVE || number == SZ_ACCESS || number == SZ_QUIET;
+            order(i, number, number == SZ_QUIET ? 0 : drawn() % (listed + 2), drawn() % 16 == 0 ? 2 : bare ? 0 : drawn() % 2);
+        }
+        run_beside_the_list(POOL_WORDS, ORDERS);
+        if (turn % 10 == 9)
+            read_beside_the_list(POOL_WORDS);
+    }
+}
+
+int main(void) {
+    for (size_t i = 0; i < MARK_WORDS; i++)
+        marks[i] = drawn();
     round_trip(1, 0);
     for (uint64_t length = 0; length <= 700; length++)
         round_trip(length <= 64 ? 1 : 2 * ((length + 63) / 64) - 1, length);
@@ -150,6 +374,10 @@ int main(void) {
     shapes();
     damages();
     sizes();
+    each_order();
+    full();
+    run_refusals();
+    many_orders();
     printf("%u answers asked from C, %u wrong\n", asked, wrong);
     return wrong != 0;
 }

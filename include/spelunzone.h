@@ -29,6 +29,16 @@ enum {
     SZ_LEAF_LACKS = 11
 };
 
+/* The orders of a run, three words each: the number, and then */
+enum {
+    SZ_INSERT = 1, /* where, and the mark, 0 or 1 */
+    SZ_REMOVE = 2, /* where, and 0; tells the mark */
+    SZ_ACCESS = 3, /* where, and 0; tells the mark */
+    SZ_RANK = 4,   /* a place, and a mark; tells how many such are before it */
+    SZ_SELECT = 5, /* k, from 1, and a mark; tells where the k-th such stands */
+    SZ_QUIET = 6   /* 0, and 0; tells the longest quiet between two strikes */
+};
+
 /* The words of a pool of n nodes. */
 #define SZ_POOL_WORDS(n) (6 * ((size_t)(n) + 1))
 
@@ -42,6 +52,10 @@ sz_answer sz_check(const uint64_t *pool, size_t pool_words);
 
 /* Overwrites the pool with the first marks of some words, lowest bit first: 6, 10, 4, or 0 and how many marks it holds. */
 sz_answer sz_build(uint64_t *pool, size_t pool_words, const uint64_t *words, size_t word_count, uint64_t length);
+
+/* Serves orders one after the other and writes two words for each, its code and its value; later words stay: 6, 9, 8, 7, or 0 and how many
+ * orders. An order's own codes are 0 to 5. One that is refused changes no word of the pool, and the next is served. */
+sz_answer sz_run(uint64_t *pool, size_t pool_words, const uint64_t *orders, size_t order_words, uint64_t *out, size_t out_words);
 
 /* Writes the marks out, two words for each 128 begun, padded with zeros; later words stay: 6, 7, 8, or 0 and how many words. */
 sz_answer sz_values(const uint64_t *pool, size_t pool_words, uint64_t *out, size_t out_words);

@@ -1,8 +1,9 @@
 // The calls as a C host sees them: words cross as a pointer and a count, and the answer comes back as two words, its number and its value.
 ghost use mathlib.Core.Path.{_≡_};
 ghost use Rattle.spelunzone.specs.Reply.{Replies, Says};
-ghost use Rattle.window.specs.Calls.{BuildsTo, Checked, Valued};
+ghost use Rattle.window.specs.Calls.{BuildsTo, Checked, Ran, Valued};
 use window::Answer;
+use window::told;
 
 #[repr(C)]
 pub struct Reply {
@@ -10,29 +11,14 @@ pub struct Reply {
     pub value: u64,
 }
 
-fn refused(code: u64) -> Reply
-    ensures { λ r. ⌜ r ≡ record { code = code; value = 0 } ⌝ }
-{
-    Reply { code, value: 0 }
-}
-
 // An answer as the number and the value of the scope.
 fn handed(answer: Answer) -> Reply
     ensures { λ r. ⌜ Says answer r ⌝ }
 {
-    match answer {
-        Answer::Done(value) => Reply { code: 0, value },
-        Answer::OutOfRange => refused(1),
-        Answer::NoZeroth => refused(2),
-        Answer::TooFew => refused(3),
-        Answer::Full => refused(4),
-        Answer::Malformed => refused(5),
-        Answer::WrongSize => refused(6),
-        Answer::NotSound => refused(7),
-        Answer::ShortOutput => refused(8),
-        Answer::PartOrder => refused(9),
-        Answer::TooLong => refused(10),
-        Answer::LeafLacks => refused(11),
+    let words = told(answer);
+    Reply {
+        code: words.code,
+        value: words.value,
     }
 }
 
@@ -55,4 +41,11 @@ pub extern "C" fn sz_values(pool: &[u64], out: &mut [u64]) -> Reply
     ensures { λ r. ⌜ Replies (λ a. Valued (now (pool .entry)) (now (out .entry)) a (now (out .exit))) r ⌝ }
 {
     handed(window::values(pool, out))
+}
+
+#[no_mangle]
+pub extern "C" fn sz_run(pool: &mut [u64], orders: &[u64], out: &mut [u64]) -> Reply
+    ensures { λ r. ⌜ Replies (λ a. Ran (now (pool .entry)) (now (orders .entry)) (now (out .entry)) a (now (pool .exit)) (now (out .exit))) r ⌝ }
+{
+    handed(window::run(pool, orders, out))
 }

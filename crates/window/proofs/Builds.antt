@@ -26,7 +26,7 @@ use Rattle.build.specs.declared.building.Built as B
 use Rattle.build.proofs.LeafMarks.{marks-of-length}
 use Rattle.build.proofs.OnePool.{builds}
 use Rattle.pool.specs.Node.{nodes-in}
-use Rattle.pool.specs.Layout.{first-of}
+use Rattle.pool.specs.Layout.{Laid, first-of}
 use Rattle.window.specs.Calls.{NoPool, BuildsTo}
 use Rattle.window.specs.Layout.{Counted, Stands, trailer-of}
 use Rattle.window.specs.declared.answer.Answer.{Answer}
@@ -108,18 +108,23 @@ module _ (ws words : List ℕ) (len : ℕ) where
 
 -- ---- the words
 
--- nodes in which the pool is laid out, and its trailer after them
+-- nodes in which a sound pool is laid out, and its trailer after them
+pub stands-with : (w six : List ℕ) (n : ℕ) (p : Pool) → Laid w n p → Sound n p → 1 ≤ n → n ≤ 1023 → six ≡ trailer-of n p → Stands (w ++ six) n p
+unfolding trailer-of
+stands-with w six n p l fine least most e = record {
+  counted = record { words = length-append w six ∙ omega (arith, l .words, ap length e); some = least; most = most };
+  nodes = rw (sym (take-at w six (n * 6) (l .words))) at l;
+  trailer = drop-at w six (n * 6) (l .words) ∙ e;
+  sound = fine;
+}
+
+-- the same of a pool that was built
 pub stands-in : (w : List ℕ) (n : ℕ) (r : B.Built) (p : Pool) → Built.Stands w n r p → Sound n p → 1 ≤ n → n ≤ 1023
     → Stands (w ++ r .root ∷ size (p .tree) ∷ r .chain .first ∷ r .chain .count ∷ n ∷ 0 ∷ []) n p
 unfolding trailer-of
 stands-in w n r p s fine least most =
-    let six : List ℕ = r .root ∷ size (p .tree) ∷ r .chain .first ∷ r .chain .count ∷ n ∷ 0 ∷ [] in
-    record {
-      counted = record { words = length-append w six ∙ omega (arith, s .laid .words); some = least; most = most };
-      nodes = rw (sym (take-at w six (n * 6) (s .laid .words))) at (s .laid);
-      trailer = drop-at w six (n * 6) (s .laid .words) ∙ (λ i. s .root i ∷ size (p .tree) ∷ s .first i ∷ s .count i ∷ n ∷ 0 ∷ []);
-      sound = fine;
-    }
+    stands-with w (r .root ∷ size (p .tree) ∷ r .chain .first ∷ r .chain .count ∷ n ∷ 0 ∷ []) n p (s .laid) fine least most
+    (λ i. s .root i ∷ size (p .tree) ∷ s .first i ∷ s .count i ∷ n ∷ 0 ∷ [])
 
 -- a trailer put over all that stood behind the nodes
 pub put-behind : (w behind six : List ℕ) (a : ℕ) → length w ≡ a → putMid a (length (w ++ behind) - a) (w ++ behind) six ≡ w ++ six

@@ -3,7 +3,7 @@
 --
 -- A contract has a case for each thing that the words can be: no pool's, a damaged pool's, or a pool that stands. That one of them is the case
 -- is known doubly negated, which is enough, as answers and words can be compared.
-use Prim.Native.Nat.{ℕ, zero, suc, _-_, _*_, _≤_, _<_}
+use Prim.Native.Nat.{ℕ, zero, suc, _-_, _*_, _%_, _≤_, _<_}
 use native.Mathlib.Omega.{arith}
 use mathlib.Core.Path.{_≡_, refl, sym, ap, ap₂, _∙_}
 use mathlib.Core.Bool.{Bool, true, false}
@@ -18,13 +18,16 @@ use Rattle.model.specs.Word.{marks-of, words-for}
 use Rattle.model.proofs.Cases.{by-ltb}
 use Rattle.build.proofs.OnePool.{laid-one}
 use Rattle.window.specs.Answer.{code, value}
-use Rattle.window.specs.Calls.{NoPool, Damaged, Checked, BuildsTo, Valued}
+use Rattle.window.specs.Calls.{NoPool, Damaged, Checked, BuildsTo, Valued, Unchanged, Ran, order-count}
 use Rattle.window.specs.Layout.{Counted, Stands, WellFormed}
+use Rattle.window.specs.Orders.{orders-of, after-all}
 use Rattle.window.specs.declared.answer.Answer.{Answer}
 use Rattle.window.specs.declared.answer.Answer.the-variants.{Done, OutOfRange, NoZeroth, TooFew, Full, Malformed, WrongSize, NotSound, ShortOutput, PartOrder, TooLong, LeafLacks}
+use Rattle.window.proofs.answer.told.Reads as told
 use Rattle.window.proofs.calls.build.Reads as build
 use Rattle.window.proofs.calls.check.Reads as check
 use Rattle.window.proofs.calls.values.Reads as values
+use Rattle.window.proofs.running.run.Reads as run
 
 -- ---- answers and words can be compared
 
@@ -52,7 +55,7 @@ pub one-answer : (a b : Answer) → code a ≡ code b → value a ≡ value b �
 one-answer a b c v = sym (answer-is a) ∙ ap₂ answer-of c v ∙ answer-is b
 
 -- what cannot be refuted
-abbrev Likely : Type 0 → Type 0
+abbrev pub Likely : Type 0 → Type 0
 Likely P = (P → ⊥) → ⊥
 
 number-stable : (m n : ℕ) → Likely (m ≡ n) → m ≡ n
@@ -63,7 +66,7 @@ answer-stable : (a b : Answer) → Likely (a ≡ b) → a ≡ b
 answer-stable a b h =
     one-answer a b (number-stable (code a) (code b) (λ n. h (λ e. n (ap code e)))) (number-stable (value a) (value b) (λ n. h (λ e. n (ap value e))))
 
-words-stable : (ws vs : List ℕ) → Likely (ws ≡ vs) → ws ≡ vs
+pub words-stable : (ws vs : List ℕ) → Likely (ws ≡ vs) → ws ≡ vs
 words-stable [] [] h = refl
 words-stable [] (v ∷ vs) h = absurd (h (λ e. let l = ap length e in omega arith))
 words-stable (w ∷ ws) [] h = absurd (h (λ e. let l = ap length e in omega arith))
@@ -82,10 +85,10 @@ both p q = (p .0 ∙ sym (q .0), p .1 ∙ sym (q .1))
 
 -- ---- what words can be
 
-sized : (ws : List ℕ) {G : Type 0} → (NoPool ws → G) → ((n : ℕ) → Counted ws n → G) → Likely G
+pub sized : (ws : List ℕ) {G : Type 0} → (NoPool ws → G) → ((n : ℕ) → Counted ws n → G) → Likely G
 sized ws absent there h = h (absent (λ n c. h (there n c)))
 
-cases : (ws : List ℕ) {G : Type 0} → (NoPool ws → G) → (Damaged ws → G) → ((n : ℕ) (p : Pool) → Stands ws n p → G) → Likely G
+pub cases : (ws : List ℕ) {G : Type 0} → (NoPool ws → G) → (Damaged ws → G) → ((n : ℕ) (p : Pool) → Stands ws n p → G) → Likely G
 cases ws absent damaged stands h =
     h (absent (λ n c. h (damaged (record { count = (n, c); none = λ x. h (stands (x .0) (x .1) (x .2)) }))))
 
@@ -123,7 +126,37 @@ builds-one ws words len a b vs us p q =
         let y = q .built n s c h e in
         (x .0 ∙ sym (y .0), one-layout vs us n s (x .1) (y .1))
 
+-- two answers that leave everything as it was
+alike : {ws vs us out o u : List ℕ} {a b c : Answer} → (a ≡ c) × Unchanged ws vs out o → (b ≡ c) × Unchanged ws us out u → (a ≡ b) × (vs ≡ us) × (o ≡ u)
+alike p q = (p .0 ∙ sym (q .0), p .1 .pool ∙ sym (q .1 .pool), p .1 .output ∙ sym (q .1 .output))
+
+pub ran-one : (ws orders out : List ℕ) (a b : Answer) (vs us o u : List ℕ) → Ran ws orders out a vs o → Ran ws orders out b us u
+    → (a ≡ b) × (vs ≡ us) × (o ≡ u)
+ran-one ws orders out a b vs us o u p q =
+    let likely : Likely ((a ≡ b) × (vs ≡ us) × (o ≡ u)) =
+    cases ws (λ d. alike (p .no-pool d) (q .no-pool d))
+    (λ d. past (d .count .0) (d .count .1) (λ whole room. alike (p .damaged d whole room) (q .damaged d whole room)))
+    (λ n s t.
+    past n (t .counted)
+    (λ whole room.
+    let x = p .served n s t whole room in
+    let y = q .served n s t whole room in
+    (x .0 ∙ sym (y .0), one-layout vs us n (after-all (orders-of orders) s) (x .1) (y .1), x .2 ∙ sym (y .2)))) in
+    (answer-stable a b (λ h. likely (λ e. h (e .0))), words-stable vs us (λ h. likely (λ e. h (e .1))), words-stable o u (λ h. likely (λ e. h (e .2))))
+  where
+    -- the tests of the orders and of the output
+    past : (n : ℕ) → Counted ws n → (length orders % 3 ≡ 0 → 2 * order-count orders ≤ length out → (a ≡ b) × (vs ≡ us) × (o ≡ u))
+        → (a ≡ b) × (vs ≡ us) × (o ≡ u)
+    past n c f =
+        by-ltb 0 (length orders % 3) (λ _ h. alike (p .part n c (λ e. omega arith)) (q .part n c (λ e. omega arith)))
+        (λ _ h.
+        let whole : length orders % 3 ≡ 0 = omega arith in
+        by-ltb (length out) (2 * order-count orders) (λ _ k. alike (p .short n c whole k) (q .short n c whole k)) (λ _ k. f whole k))
+
 -- ---- as the source has them
+
+pub told-pinned : (κs : _) (a : _) (r r′ : _) (w w′ : _) → told.Post κs a r w → told.Post κs a r′ w′ → r ≡ r′
+told-pinned κs a r r′ w w′ p q = λ i. record { code = (p .0 ∙ sym (q .0)) i; value = (p .1 ∙ sym (q .1)) i }
 
 pub check-pinned : (κs : _) (a : _) (r r′ : _) (w w′ : _) → check.Post κs a r w → check.Post κs a r′ w′ → r ≡ r′
 check-pinned κs a r r′ w w′ p q = checked-one _ r r′ p q
@@ -133,3 +166,7 @@ build-pinned κs a r r′ w w′ p q = builds-one _ _ _ r r′ _ _ p q
 
 pub values-pinned : (κs : _) (a : _) (r r′ : _) (w w′ : _) → values.Post κs a r w → values.Post κs a r′ w′ → (r ≡ r′) × (now (w .1 .0) ≡ now (w′ .1 .0))
 values-pinned κs a r r′ w w′ p q = valued-one _ _ r r′ _ _ p q
+
+pub run-pinned : (κs : _) (a : _) (r r′ : _) (w w′ : _) → run.Post κs a r w → run.Post κs a r′ w′
+    → (r ≡ r′) × (now (w .0) ≡ now (w′ .0)) × (now (w .1 .1 .0) ≡ now (w′ .1 .1 .0))
+run-pinned κs a r r′ w w′ p q = ran-one _ _ _ r r′ _ _ _ _ p q

@@ -1,4 +1,7 @@
 // What a call or an order answers. The scope's number and value for each case are given in specs/Answer.antt.
+ghost use mathlib.Core.Path.{_≡_};
+ghost use Rattle.window.specs.Answer.{code, value};
+
 pub enum Answer {
     Done(u64),
     OutOfRange,
@@ -12,4 +15,36 @@ pub enum Answer {
     PartOrder,
     TooLong,
     LeafLacks,
+}
+
+// An answer as two words.
+pub struct TwoWords {
+    pub code: u64,
+    pub value: u64,
+}
+
+fn refusal(code: u64) -> TwoWords
+    ensures { λ r. ⌜ (r .code ≡ code) × (r .value ≡ 0) ⌝ }
+{
+    TwoWords { code, value: 0 }
+}
+
+// The scope's number and value of an answer.
+pub fn told(answer: Answer) -> TwoWords
+    ensures { λ r. ⌜ (r .code ≡ code answer) × (r .value ≡ value answer) ⌝ }
+{
+    match answer {
+        Answer::Done(value) => TwoWords { code: 0, value },
+        Answer::OutOfRange => refusal(1),
+        Answer::NoZeroth => refusal(2),
+        Answer::TooFew => refusal(3),
+        Answer::Full => refusal(4),
+        Answer::Malformed => refusal(5),
+        Answer::WrongSize => refusal(6),
+        Answer::NotSound => refusal(7),
+        Answer::ShortOutput => refusal(8),
+        Answer::PartOrder => refusal(9),
+        Answer::TooLong => refusal(10),
+        Answer::LeafLacks => refusal(11),
+    }
 }

@@ -21,13 +21,13 @@ const MOST_WORDS: usize = 6144;
 const WORD_BITS: u64 = 64;
 
 // Whether a pool stands in its words, with its trailer, or not.
-enum Judgement {
+pub enum Judgement {
     Stands(Trailer),
     Damaged,
 }
 
 // How many nodes a pool of these words has, 0 where no pool has so many words.
-fn nodes_of(pool: &[u64]) -> usize
+pub fn nodes_of(pool: &[u64]) -> usize
     ensures { λ r. ⌜ Measures (now (pool .entry)) r ⌝ }
 {
     let words = pool.len();
@@ -44,7 +44,7 @@ fn nodes_of(pool: &[u64]) -> usize
 }
 
 // Whether a pool of n nodes stands in these words.
-fn judged(pool: &[u64], n: usize) -> Judgement
+pub fn judged(pool: &[u64], n: usize) -> Judgement
     requires { ⌜ Counted (now pool) n ⌝ }
     ensures { λ r. ⌜ Judges (now (pool .entry)) n r ⌝ }
 {
