@@ -1,5 +1,6 @@
 //! What the calls cost, ours by libspelunzone.a and the published Rust beside it, on the same marks in one run: building a window,
-//! writing its marks out, and checking its pool. The best of many turns, in nanoseconds for a call.
+//! writing its marks out, checking its pool, and the orders in lists of 1,000. The best of many turns, in nanoseconds for a call or an
+//! order.
 
 use oracle::Vector;
 use std::hint::black_box;
@@ -21,6 +22,14 @@ unsafe extern "C" {
     fn sz_check(pool: *const u64, pool_words: usize) -> Answer;
     fn sz_build(pool: *mut u64, pool_words: usize, words: *const u64, word_count: usize, length: u64) -> Answer;
     fn sz_values(pool: *const u64, pool_words: usize, out: *mut u64, out_words: usize) -> Answer;
+    fn sz_run(
+        pool: *mut u64,
+        pool_words: usize,
+        orders: *const u64,
+        order_words: usize,
+        out: *mut u64,
+        out_words: usize,
+    ) -> Answer;
 }
 
 fn check(pool: &[u64]) -> Answer {
@@ -33,6 +42,10 @@ fn build(pool: &mut [u64], words: &[u64], length: usize) -> Answer {
 
 fn values(pool: &[u64], out: &mut [u64]) -> Answer {
     unsafe { sz_values(pool.as_ptr(), pool.len(), out.as_mut_ptr(), out.len()) }
+}
+
+fn run(pool: &mut [u64], orders: &[u64], out: &mut [u64]) -> Answer {
+    unsafe { sz_run(pool.as_mut_ptr(), pool.len(), orders.as_ptr(), orders.len(), out.as_mut_ptr(), out.len()) }
 }
 
 /// The best time of a call over the turns.
@@ -65,17 +78,66 @@ fn row(length: usize, marks: &[u64]) {
     println!("{length:>8}{built:>12.0}{built_rust:>12.0}{written:>12.0}{written_rust:>12.0}{checked:>12.0}");
 }
 
-/// An insert and a remove by the published Rust at places all over the window, for a measure of what an edit costs.
-fn edit(length: usize, marks: &[u64]) -> f64 {
+const ORDERS: usize = 1_000;
+
+struct Random(u64);
+
+impl Random {
+    fn below(&mut self, n: u64) -> u64 {
+        self.0 ^= self.0 << 13;
+        self.0 ^= self.0 >> 7;
+        self.0 ^= self.0 << 17;
+        self.0 % n
+    }
+}
+
+fn by_rust(vector: &mut Vector, [order, second, third]: [u64; 3]) {
+    let (at, bit) = (second as usize, third == 1);
+    match order {
+        1 => vector.insert(at, bit).unwrap(),
+        2 => drop(black_box(vector.remove(at))),
+        3 => drop(black_box(vector.access(at))),
+        4 => drop(black_box(vector.rank(bit, at))),
+        _ => drop(black_box(vector.select(bit, at))),
+    }
+}
+
+/// Lists of 1,000 orders of one kind at random places, inserts and removes in turn, so that the window keeps about its length.
+fn orders(length: usize, marks: &[u64]) {
     let blocks: Vec<u128> = marks.chunks(2).map(|w| u128::from(w[0]) | u128::from(w[1]) << 64).collect();
     let mut vector = Vector::new(blocks, length);
-    let mut place = 0;
-    timed(|| {
-        place = (place + 7_919) % length;
-        black_box(vector.insert(place, true)).unwrap();
-        place = (place + 7_919) % length;
-        black_box(vector.remove(place)).unwrap();
-    }) / 2.0
+    let mut pool = vec![0; 6 * (NODES + 1)];
+    let mut out = vec![0; 2 * ORDERS];
+    assert_eq!(build(&mut pool, marks, length).code, 0);
+    let ones = vector.rank(true, length).unwrap() as u64;
+    let mut random = Random(88172645463325252);
+    let mut best = [[f64::MAX; 2]; 5];
+    for _ in 0..2 * TURNS {
+        for order in 1..=5 {
+            let list: Vec<[u64; 3]> = (0..ORDERS)
+                .map(|_| match order {
+                    1 | 4 => [order, random.below(length as u64), 1],
+                    5 => [order, 1 + random.below(ones / 2), 1],
+                    _ => [order, random.below(length as u64), 0],
+                })
+                .collect();
+            let words = list.concat();
+            let start = Instant::now();
+            assert_eq!(run(&mut pool, &words, &mut out), Answer { code: 0, value: ORDERS as u64 });
+            let ours = start.elapsed().as_nanos() as f64 / ORDERS as f64;
+            let start = Instant::now();
+            list.iter().for_each(|order| by_rust(&mut vector, *order));
+            let rust = start.elapsed().as_nanos() as f64 / ORDERS as f64;
+            let best = &mut best[order as usize - 1];
+            *best = [best[0].min(ours), best[1].min(rust)];
+        }
+    }
+    println!("nanoseconds for an order at {length} marks, in lists of {ORDERS}; ours tests the pool once a list, which is counted in");
+    for (name, [ours, rust]) in ["insert", "remove", "access", "rank", "select"].iter().zip(best) {
+        println!("{name:>8}{ours:>12.1}{rust:>12.1}{:>12.2}", ours / rust);
+    }
+    let quiet = timed(|| assert_eq!(run(black_box(&mut pool), &[6, 0, 0], &mut out).code, 0));
+    println!("{:>8}{quiet:>12.1}", "quiet");
 }
 
 fn main() {
@@ -93,5 +155,5 @@ fn main() {
     for length in [1_875, 3_750, 7_500, 15_000, 30_000] {
         row(length, &marks);
     }
-    println!("an edit by the published Rust at 15000 marks: {:.0}", edit(15_000, &marks));
+    orders(15_000, &marks);
 }

@@ -37,20 +37,20 @@ fn put(file: &mut BufWriter<File>, words: &[u64]) {
 
 fn write(all: &[Request], requests: &str, answers: &str) {
     let (mut requests, mut answers) = (made(requests), made(answers));
-    let (mut calls, mut questions, mut words, mut alike) = (0, 0, 0, 0);
+    let (mut calls, mut orders, mut words, mut alike) = (0, 0, 0, 0);
     for request in all {
         let (answer, list) = by_list(request);
         alike += list.map_or(0, |list| hold_to_the_published(request, &list, &answer));
         put(&mut requests, &request.to_words());
         put(&mut answers, &answer.to_words());
-        calls += 3;
-        questions += answer.replies.len();
+        calls += 4;
+        orders += answer.replies.len();
         words += answer.out.len() + answer.pool.len();
     }
     requests.flush().expect("a write failed");
     answers.flush().expect("a write failed");
     println!(
-        "{} requests: {calls} calls, {questions} questions and {words} words of pools and outputs; {alike} answers by the published \
+        "{} requests: {calls} calls, {orders} orders and {words} words of pools and outputs; {alike} answers by the published \
          code and the list alike",
         all.len()
     );

@@ -1,7 +1,7 @@
 -- `window_replay::serve_parts` is safe and ends: what is lent lies in what there is. Assumes nothing.
-use native.Mathlib.Omega.{arith}
-use lib.ListN.{length-take}
 use borrow.Author.Needs.{needs}
+use lib.ListN.{length-take}
+use native.Mathlib.Omega.{arith}
 use Rattle.window_replay.proofs.serve_parts.Statement.{statement}
 use Rattle.window_replay.proofs.serve_parts.Tie as tie
 
@@ -11,6 +11,11 @@ serve-parts-spec =
     (tie.spec
     (λ c. search needs)
     (λ c. simp length-take (omega arith))
+    (λ c. simp length-take (omega arith))
+    (λ c. search needs)
+    (λ c. simp length-take (omega arith))
+    (λ c. search needs)
+    (λ c. search needs)
     (λ c. simp length-take (omega arith))
     (λ c. search needs)
     (λ c. simp length-take (omega arith))

@@ -8,6 +8,7 @@ const OUT_OF_RANGE: u64 = 1;
 const NO_ZEROTH: u64 = 2;
 const TOO_FEW: u64 = 3;
 const FULL: u64 = 4;
+const MALFORMED: u64 = 5;
 const WRONG_SIZE: u64 = 6;
 const NOT_SOUND: u64 = 7;
 const SHORT_OUTPUT: u64 = 8;
@@ -29,45 +30,40 @@ fn refusal(request: &Request) -> Option<u64> {
     (need(length as usize) > size / 6 - 1).then_some(FULL)
 }
 
-/// The places of each kind of mark, and how many ones stand before each place.
-pub struct List {
-    pub bits: Vec<bool>,
-    places: [Vec<u64>; 2],
-    before: Vec<u64>,
+fn quiet(bits: &[bool]) -> u64 {
+    let strikes: Vec<usize> = (0..bits.len()).filter(|&at| bits[at]).collect();
+    strikes.windows(2).map(|two| two[1] - two[0] - 1).max().unwrap_or(0) as u64
 }
 
-impl List {
-    pub fn new(bits: Vec<bool>) -> Self {
-        let mut places = [Vec::new(), Vec::new()];
-        let mut before = vec![0];
-        for (i, &bit) in bits.iter().enumerate() {
-            places[bit as usize].push(i as u64);
-            before.push(places[1].len() as u64);
+/// The answer to an order, which changes the list. A pool that has room for every mark is spoken of: no answer is Full.
+pub fn reply(bits: &mut Vec<bool>, order: Order) -> Pair {
+    let length = bits.len() as u64;
+    match order {
+        [INSERT | RANK | SELECT, _, (2..)] | [REMOVE | ACCESS, _, (1..)] => [MALFORMED, 0],
+        [INSERT, at, bit] if at <= length => {
+            bits.insert(at as usize, bit == 1);
+            [DONE, 0]
         }
-        List { bits, places, before }
-    }
-
-    pub fn reply(&self, question: Question) -> Pair {
-        let length = self.bits.len() as u64;
-        match question {
-            [ACCESS, at, _] if at < length => [DONE, self.bits[at as usize] as u64],
-            [RANK, end, 1] if end <= length => [DONE, self.before[end as usize]],
-            [RANK, end, _] if end <= length => [DONE, end - self.before[end as usize]],
-            [SELECT, 0, _] => [NO_ZEROTH, 0],
-            [SELECT, k, bit] => {
-                let place = self.places[bit as usize].get(usize::try_from(k - 1).unwrap());
-                place.map_or([TOO_FEW, 0], |&at| [DONE, at])
-            }
-            _ => [OUT_OF_RANGE, 0],
+        [REMOVE, at, _] if at < length => [DONE, bits.remove(at as usize) as u64],
+        [ACCESS, at, _] if at < length => [DONE, bits[at as usize] as u64],
+        [RANK, end, bit] if end <= length => [DONE, bits[..end as usize].iter().filter(|b| **b == (bit == 1)).count() as u64],
+        [SELECT, 0, _] => [NO_ZEROTH, 0],
+        [SELECT, k, bit] => {
+            let mut places = (0..bits.len()).filter(|&at| bits[at] == (bit == 1));
+            let place = usize::try_from(k - 1).ok().and_then(|k| places.nth(k));
+            place.map_or([TOO_FEW, 0], |at| [DONE, at as u64])
         }
+        [INSERT | REMOVE | ACCESS | RANK, ..] => [OUT_OF_RANGE, 0],
+        [QUIET, 0, 0] => [DONE, quiet(bits)],
+        _ => [MALFORMED, 0],
     }
+}
 
-    /// Two words for each 128 bits begun.
-    pub fn values(&self) -> Vec<u64> {
-        let mut words = vec![0; 2 * self.bits.len().div_ceil(128)];
-        self.places[1].iter().for_each(|at| words[*at as usize / 64] |= 1 << (at % 64));
-        words
-    }
+/// Two words for each 128 bits begun.
+pub fn values(bits: &[bool]) -> Vec<u64> {
+    let mut words = vec![0; 2 * bits.len().div_ceil(128)];
+    (0..bits.len()).filter(|&at| bits[at]).for_each(|at| words[at / 64] |= 1 << (at % 64));
+    words
 }
 
 fn refused(request: &Request, code: u64) -> Answer {
@@ -75,34 +71,38 @@ fn refused(request: &Request, code: u64) -> Answer {
     let after = if code == WRONG_SIZE { WRONG_SIZE } else { NOT_SOUND };
     Answer {
         built: [code, 0],
+        ran: [after, 0],
         checked: [after, 0],
         valued: [after, 0],
-        replies: vec![[u64::MAX; 2]; request.questions.len()],
+        replies: vec![[u64::MAX; 2]; request.orders.len()],
         out: vec![request.fill; request.room],
-        pool: vec![request.fill; request.size],
+        pool: vec![request.fill; request.shown],
     }
 }
 
-/// A word that is set after the questions is to damage the pool.
-pub fn by_list(request: &Request) -> (Answer, Option<List>) {
+/// What a request is to be answered, and the list afterwards. A word that is set after the orders is to damage the pool, and the
+/// pool's words are told only where no order changes them.
+pub fn by_list(request: &Request) -> (Answer, Option<Vec<bool>>) {
     if let Some(code) = refusal(request) {
         return (refused(request, code), None);
     }
-    let list = List::new(bits_of(&request.words, request.length));
+    let mut bits = bits_of(&request.words, request.length);
     let mut answer = refused(request, DONE);
     answer.built = [DONE, request.length];
-    answer.replies = request.questions.iter().map(|question| list.reply(*question)).collect();
-    answer.pool = built(request.size / 6 - 1, &list.bits);
-    let values = list.values();
+    answer.pool = built(request.size / 6 - 1, &bits);
+    answer.replies = request.orders.iter().map(|order| reply(&mut bits, *order)).collect();
+    answer.ran = [DONE, request.orders.len() as u64];
+    let words = values(&bits);
     if let Some(word) = answer.pool.get_mut(request.at as usize) {
         *word = request.word;
     } else {
-        answer.checked = [DONE, request.length];
+        answer.checked = [DONE, bits.len() as u64];
         answer.valued = [SHORT_OUTPUT, 0];
-        if values.len() <= request.room {
-            answer.valued = [DONE, values.len() as u64];
-            answer.out[..values.len()].copy_from_slice(&values);
+        if words.len() <= request.room {
+            answer.valued = [DONE, words.len() as u64];
+            answer.out[..words.len()].copy_from_slice(&words);
         }
     }
-    (answer, Some(list))
+    answer.pool.truncate(request.shown);
+    (answer, Some(bits))
 }

@@ -1,6 +1,6 @@
-//! Builds, values and questions by the published Rust, where that is defined.
+//! Builds, values and orders by the published Rust, where that is defined.
 
-use super::list::List;
+use super::list::values;
 use super::request::*;
 use oracle::{Refusal, Vector};
 use std::panic;
@@ -12,31 +12,39 @@ fn vector(request: &Request) -> Vector {
     Vector::new(words.chunks(2).map(block).collect(), request.length as usize)
 }
 
-fn reply(vector: &Vector, [order, second, third]: Question) -> Pair {
+// None for an order that it does not know.
+fn reply(vector: &mut Vector, [order, second, third]: Order) -> Option<Pair> {
     let (at, bit) = (usize::try_from(second).unwrap(), third == 1);
-    let reply = match order {
-        ACCESS => vector.access(at).map(|bit| [0, bit as u64]),
-        RANK => vector.rank(bit, at).map(|count| [0, count as u64]),
-        SELECT => vector.select(bit, at).map(|place| place.map_or([3, 0], |place| [0, place as u64])),
-        _ => unreachable!("no other question is made"),
+    let reply = match (order, third) {
+        (INSERT, 0..2) => vector.insert(at, bit).map(|()| [0, 0]),
+        (REMOVE, 0) => vector.remove(at).map(|bit| [0, bit as u64]),
+        (ACCESS, 0) => vector.access(at).map(|bit| [0, bit as u64]),
+        (RANK, 0..2) => vector.rank(bit, at).map(|count| [0, count as u64]),
+        (SELECT, 0..2) => vector.select(bit, at).map(|place| place.map_or([3, 0], |place| [0, place as u64])),
+        _ => return None,
     };
-    reply.unwrap_or_else(|refusal| match refusal {
+    Some(reply.unwrap_or_else(|refusal| match refusal {
         Refusal::Index => [1, 0],
         Refusal::Value => [2, 0],
         Refusal::Runtime => [11, 0],
-    })
+    }))
 }
 
-/// Stops where the published code and the list differ, and says how many answers they gave alike.
-pub fn hold_to_the_published(request: &Request, list: &List, answer: &Answer) -> u64 {
-    let vector = vector(request);
-    let blocks = vector.values().unwrap();
-    let values: Vec<u64> = blocks.iter().flat_map(|&block| [block as u64, (block >> 64) as u64]).collect();
-    assert_eq!(values, list.values(), "values differ on {request:?}");
-    for (question, expected) in request.questions.iter().zip(&answer.replies) {
-        assert_eq!(reply(&vector, *question), *expected, "{question:?} differs on {request:?}");
+/// Stops where the published code and the list differ, in an answer or in the marks that are left, and says how many answers they
+/// gave alike.
+pub fn hold_to_the_published(request: &Request, list: &[bool], answer: &Answer) -> u64 {
+    let mut vector = vector(request);
+    let mut alike = 1;
+    for (order, expected) in request.orders.iter().zip(&answer.replies) {
+        if let Some(reply) = reply(&mut vector, *order) {
+            assert_eq!(reply, *expected, "{order:?} differs on {request:?}");
+            alike += 1;
+        }
     }
-    1 + answer.replies.len() as u64
+    let blocks = vector.values().unwrap();
+    let words: Vec<u64> = blocks.iter().flat_map(|&block| [block as u64, (block >> 64) as u64]).collect();
+    assert_eq!(words, values(list), "values differ on {request:?}");
+    alike
 }
 
 // The hook is put back before the assertion, so that a call that no longer stops is named.

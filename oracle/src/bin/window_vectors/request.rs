@@ -1,23 +1,27 @@
 //! What a request of `window_replay` holds, and how it and its answer are written as words.
 
+pub const INSERT: u64 = 1;
+pub const REMOVE: u64 = 2;
 pub const ACCESS: u64 = 3;
 pub const RANK: u64 = 4;
 pub const SELECT: u64 = 5;
+pub const QUIET: u64 = 6;
 
-pub type Question = [u64; 3];
+pub type Order = [u64; 3];
 
-/// A build of `words` and `length` into `size` words of `fill`, questions on what was built, and the word put at `at` before
-/// check and values are called, the latter with an output of `room` words.
+/// A build of `words` and `length` into `size` words of `fill`, orders on what was built, and the word put at `at` before check and
+/// values are called, the latter with an output of `room` words. So many of the pool's words are `shown` afterwards.
 #[derive(Clone, Debug, Default)]
 pub struct Request {
     pub size: usize,
     pub fill: u64,
     pub words: Vec<u64>,
     pub length: u64,
-    pub questions: Vec<Question>,
+    pub orders: Vec<Order>,
     pub room: usize,
     pub at: u64,
     pub word: u64,
+    pub shown: usize,
 }
 
 /// A code and a value.
@@ -26,6 +30,7 @@ pub type Pair = [u64; 2];
 #[derive(Clone, Debug, PartialEq, Eq)]
 pub struct Answer {
     pub built: Pair,
+    pub ran: Pair,
     pub checked: Pair,
     pub valued: Pair,
     pub replies: Vec<Pair>,
@@ -34,23 +39,23 @@ pub struct Answer {
 }
 
 impl Request {
-    /// No word of the pool is set after the questions.
+    /// No word of the pool is set after the orders.
     pub const NOWHERE: u64 = u64::MAX;
 
     pub fn to_words(&self) -> Vec<u64> {
-        let counts = [self.words.len() as u64, self.length, self.questions.len() as u64, self.room as u64];
+        let counts = [self.words.len() as u64, self.length, self.orders.len() as u64, self.room as u64];
         let mut all = vec![self.size as u64, self.fill];
         all.extend(counts);
-        all.extend([self.at, self.word]);
+        all.extend([self.at, self.word, self.shown as u64]);
         all.extend(&self.words);
-        all.extend(self.questions.concat());
+        all.extend(self.orders.concat());
         all
     }
 }
 
 impl Answer {
     pub fn to_words(&self) -> Vec<u64> {
-        let mut all = [self.built, self.checked, self.valued].concat();
+        let mut all = [self.built, self.ran, self.checked, self.valued].concat();
         all.extend(self.replies.concat());
         all.extend(&self.out);
         all.extend(&self.pool);
@@ -59,10 +64,10 @@ impl Answer {
 
     /// What the word at a place of the answer is.
     pub fn part(&self, request: &Request, place: usize) -> String {
-        let asked = 6 + 2 * self.replies.len();
+        let asked = 8 + 2 * self.replies.len();
         match place {
-            0..6 => format!("{} of {}", ["the code", "the value"][place % 2], ["build", "check", "values"][place / 2]),
-            _ if place < asked => format!("the answer to {:?}", request.questions[(place - 6) / 2]),
+            0..8 => format!("{} of {}", ["the code", "the value"][place % 2], ["build", "run", "check", "values"][place / 2]),
+            _ if place < asked => format!("the answer to order {}, {:?}", (place - 8) / 2, request.orders[(place - 8) / 2]),
             _ if place < asked + self.out.len() => format!("word {} of the output", place - asked),
             _ => format!("word {} of the pool", place - asked - self.out.len()),
         }
