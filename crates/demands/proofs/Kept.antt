@@ -1,8 +1,5 @@
 -- Each promise, and the law that keeps it.
-use mathlib.Core.Path.{_≡_, ap}
-use mathlib.Core.List.{List}
-use native.Mathlib.Omega.{arith}
-use Rattle.window.specs.Answer.{code}
+use mathlib.Core.Path.{_≡_}
 use Rattle.window.specs.Orders.{inserting, answer}
 use Rattle.window.specs.declared.answer.Answer.the-variants.{Full}
 use Rattle.demands.specs.Promises.{RefusedChangesNothing, RefusedBuildChangesNothing, RefusedValuesChangesNothing, RefusedRunChangesNothing, AnswersAreTheLists, WithRoomAllIsTheLists, NoRoom, FullExactly, SizesAgree, NoFullBelowTheFloor, NoFullBelow16958, NothingLost, DoneIsDone, FullIsTold}

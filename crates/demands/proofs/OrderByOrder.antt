@@ -15,11 +15,8 @@ use Rattle.model.specs.Tree.{marks, size}
 use Rattle.model.proofs.Cases.{by-leb, by-ltb, by-test}
 use Rattle.model.proofs.Content.{size-marks}
 use Rattle.model.proofs.PoolSound.{insert-sound, remove-sound, insert-pool-marks, remove-pool-marks}
+pub use Rattle.window.proofs.Orderly.{never}
 use Rattle.window.specs.Orders.{Asked, inserting, removing, accessing, ranking, selecting, quiet, unknown, no-room, after, after-all, list-after, or-else}
-
--- true is not false
-pub never : {A : Type 0} {b : Bool} → b ≡ true → b ≡ false → A
-never {b = b} t f = let e : _≡_ {A = Bool} true false = sym t ∙ f in let z : _≡_ {A = ℕ} 0 1 = cc in absurd (omega arith)
 
 -- an insert has room or has none
 pub by-room : {P : Type 0} (i : ℕ) (b : Bool) (p : Pool) → (Pool.full i p ≡ true → Pool.insert i b p ≡ none → P) → ((q : Pool) → Pool.full i p ≡ false → Pool.insert i b p ≡ some q → P) → P

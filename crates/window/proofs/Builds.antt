@@ -15,12 +15,10 @@ use Rattle.model.specs.Pool.{Pool, nodes-for}
 use Rattle.model.specs.Sound.{Sound}
 use Rattle.model.specs.Tree.{size, top}
 use Rattle.model.specs.Word.{marks-of}
-use Rattle.model.proofs.BuiltBalance.{build-balanced}
 use Rattle.model.proofs.BuiltContent.{build-marks}
-use Rattle.model.proofs.BuiltLeaves.{build-whole}
-use Rattle.model.proofs.BuiltNumbers.{pool-numbers}
 use Rattle.model.proofs.Content.{size-marks}
 use Rattle.model.proofs.PoolCases.{build-outcomes}
+use Rattle.model.proofs.PoolSound.{build-sound, build-tree}
 use Rattle.build.specs.Built as Built
 use Rattle.build.specs.declared.building.Built as B
 use Rattle.build.proofs.LeafMarks.{marks-of-length}
@@ -56,18 +54,7 @@ module _ (words : List ℕ) (len : ℕ) (given : len ≤ 64 * length words) wher
   pub built-sound : (n : ℕ) (p : Pool) → Pool.build n (take len (marks-of words)) ≡ some p → Sound n p × (size (p .tree) ≡ len)
   built-sound n p e =
       let xs : List Bool = take len (marks-of words) in
-      build-outcomes (λ (o : Option Pool). o ≡ some p → Sound n p × (size (p .tree) ≡ len)) n xs
-      (λ _ d. let never : _≡_ {A = ℕ} 0 1 = cc in absurd (omega arith))
-      (λ _ d.
-      let same : p .tree ≡ Build.build xs = cc in (
-        record {
-          balanced = rw (sym same) at (build-balanced xs);
-          whole = rw (sym same) at (build-whole xs);
-          each = pool-numbers n xs p e;
-        },
-        ap size same ∙ size-marks (Build.build xs) ∙ ap length (build-marks xs) ∙ built-length,
-      ))
-      e
+      (build-sound n xs p e, ap size (build-tree n xs p e) ∙ size-marks (Build.build xs) ∙ ap length (build-marks xs) ∙ built-length)
 
 -- ---- the answers
 

@@ -11,7 +11,7 @@ use Rattle.model.specs.Sound.{Sized, Sound, Whole}
 use Rattle.model.specs.Tree as Tree
 use Rattle.model.specs.Tree.{Tree, top, size}
 use Rattle.model.proofs.Depth.{depth}
-use Rattle.model.proofs.Leaves.{sized-weaken}
+pub use Rattle.model.proofs.Floor.{whole-sized}
 use Rattle.pool.specs.Layout.{Laid, Rooted, first-of}
 use Rattle.pool.specs.Node.{nodes-in}
 use Rattle.pool.proofs.Cells.{nodes-in-of}
@@ -90,11 +90,6 @@ module _ (ws : List ℕ) (n : ℕ) (c : Counted ws n) where
       begins = rw nodes-are (sym (ap (λ (v : List ℕ). getD v 2 0) (s .trailer)));
       amount = sym (ap (λ (v : List ℕ). getD v 3 0) (s .trailer));
     }
-
--- a whole tree has no leaf too full
-pub whole-sized : (t : Tree) → Whole t → Sized 0 t
-whole-sized (Tree.leaf n xs) w = w
-whole-sized (Tree.fork n l r) w = sized-weaken 0 1 (Tree.fork n l r) (omega arith) w
 
 -- the tree of a pool that stands, from its root down
 pub stands-rooted : (ws : List ℕ) (n : ℕ) (p : Pool) → Stands ws n p → Rooted (take (n * 6) ws) (top (p .tree)) 12 (p .tree)
