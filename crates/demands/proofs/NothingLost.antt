@@ -23,7 +23,7 @@ use Rattle.window.specs.declared.answer.Answer.the-variants.{Done, Full}
 use Rattle.demands.specs.Following.{done, put-in, taken-out, total}
 use Rattle.demands.specs.Promises.{NoRoom}
 use Rattle.demands.proofs.Refusals.{full-only-if}
-use Rattle.demands.proofs.OrderByOrder.{never, by-room, after-full, after-marks}
+use Rattle.demands.proofs.OrderByOrder.{list-codes, after-marks}
 use Rattle.demands.proofs.TheList.{one-order, one-order-full}
 
 -- ---- one order
@@ -100,27 +100,8 @@ unfolding code
 full-is-told o p e = ap code (one-order-full o p e .0)
 
 pub told-is-full : (o : Asked) (p : Pool) → code (answer o p) ≡ 4 → no-room o p ≡ true
-unfolding answer list-answer code
-told-is-full o p e =
-    by-test (no-room o p) (λ t. t) (λ t. absurd (listed o (marks (p .tree)) (rw (answer, t) at e)))
-  where
-    ranged : (b : Bool) (v : ℕ) → code (in-range b (Done v)) ≡ 4 → ⊥
-    ranged true v e = omega arith
-    ranged false v e = omega arith
-
-    found : (m : Option ℕ) → code (placed m) ≡ 4 → ⊥
-    found none e = omega arith
-    found (some v) e = omega arith
-
-    listed : (o : Asked) (xs : List Bool) → code (list-answer o xs) ≡ 4 → ⊥
-    listed (inserting i b) xs e = ranged (leb i (length xs)) 0 e
-    listed (removing i) xs e = ranged (ltb i (length xs)) _ e
-    listed (accessing i) xs e = ranged (ltb i (length xs)) _ e
-    listed (ranking end b) xs e = ranged (leb end (length xs)) _ e
-    listed (selecting zero b) xs e = omega arith
-    listed (selecting (suc k) b) xs e = found (Marks.select b (suc k) xs) e
-    listed quiet xs e = omega arith
-    listed unknown xs e = omega arith
+unfolding answer
+told-is-full o p e = by-test (no-room o p) (λ t. t) (λ t. absurd (list-codes o (marks (p .tree)) .0 (rw (answer, t) at e)))
 
 -- so the code 4 tells an insert that found no room
 pub told-full : (n : ℕ) (o : Asked) (p : Pool) → Sound n p → code (answer o p) ≡ 4 → (i : ℕ) × (b : Bool) × (o ≡ inserting i b) × NoRoom i p

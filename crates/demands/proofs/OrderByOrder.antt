@@ -8,6 +8,7 @@ use mathlib.Core.Option.{Option, none, some}
 use lib.Dec.{leb, ltb}
 use lib.ListN.{length, drop}
 use Rattle.model.specs.Edit as Edit
+use Rattle.model.specs.Marks as Marks
 use Rattle.model.specs.Pool as Pool
 use Rattle.model.specs.Pool.{Pool}
 use Rattle.model.specs.Sound.{Sound}
@@ -16,7 +17,9 @@ use Rattle.model.proofs.Cases.{by-leb, by-ltb, by-test}
 use Rattle.model.proofs.Content.{size-marks}
 use Rattle.model.proofs.PoolSound.{insert-sound, remove-sound, insert-pool-marks, remove-pool-marks}
 pub use Rattle.window.proofs.Orderly.{never}
-use Rattle.window.specs.Orders.{Asked, inserting, removing, accessing, ranking, selecting, quiet, unknown, no-room, after, after-all, list-after, or-else}
+use Rattle.window.specs.Orders.{Asked, inserting, removing, accessing, ranking, selecting, quiet, unknown, in-range, placed, no-room, after, after-all, list-answer, list-after, or-else}
+use Rattle.window.specs.Answer.{code}
+use Rattle.window.specs.declared.answer.Answer.the-variants.{Done}
 
 -- an insert has room or has none
 pub by-room : {P : Type 0} (i : ℕ) (b : Bool) (p : Pool) → (Pool.full i p ≡ true → Pool.insert i b p ≡ none → P) → ((q : Pool) → Pool.full i p ≡ false → Pool.insert i b p ≡ some q → P) → P
@@ -28,6 +31,29 @@ by-room i b p f g =
       tree = Edit.insert i b (p .free) (p .tree);
       free = elim (Edit.splits i (p .tree)) [ true ↦ drop 2 (p .free) | false ↦ p .free ];
     }) e (rw (Pool.insert, e)))
+
+-- what the list answers is never Full, and never that a leaf lacks a mark
+pub list-codes : (o : Asked) (xs : List Bool) → (code (list-answer o xs) ≡ 4 → ⊥) × (code (list-answer o xs) ≤ 5)
+unfolding list-answer code
+list-codes o xs = listed o
+  where
+    ranged : (b : Bool) (v : ℕ) → (code (in-range b (Done v)) ≡ 4 → ⊥) × (code (in-range b (Done v)) ≤ 5)
+    ranged true v = ((λ e. omega arith), omega arith)
+    ranged false v = ((λ e. omega arith), omega arith)
+
+    found : (m : Option ℕ) → (code (placed m) ≡ 4 → ⊥) × (code (placed m) ≤ 5)
+    found none = ((λ e. omega arith), omega arith)
+    found (some v) = ((λ e. omega arith), omega arith)
+
+    listed : (o : Asked) → (code (list-answer o xs) ≡ 4 → ⊥) × (code (list-answer o xs) ≤ 5)
+    listed (inserting i b) = ranged (leb i (length xs)) 0
+    listed (removing i) = ranged (ltb i (length xs)) _
+    listed (accessing i) = ranged (ltb i (length xs)) _
+    listed (ranking end b) = ranged (leb end (length xs)) _
+    listed (selecting zero b) = ((λ e. omega arith), omega arith)
+    listed (selecting (suc k) b) = found (Marks.select b (suc k) xs)
+    listed quiet = ((λ e. omega arith), omega arith)
+    listed unknown = ((λ e. omega arith), omega arith)
 
 -- a pool that is sound stays sound
 pub after-sound : (n : ℕ) (o : Asked) (p : Pool) → Sound n p → Sound n (after o p)

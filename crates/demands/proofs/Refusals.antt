@@ -22,7 +22,7 @@ use Rattle.window.specs.Orders.{Asked, inserting, removing, accessing, ranking,
 use Rattle.window.specs.declared.answer.Answer.{Answer}
 use Rattle.window.specs.declared.answer.Answer.the-variants.{Done, OutOfRange, NoZeroth, TooFew, Full, Malformed}
 use Rattle.demands.specs.Promises.{NoRoom}
-use Rattle.demands.proofs.OrderByOrder.{never, by-room, after-full}
+use Rattle.demands.proofs.OrderByOrder.{list-codes, by-room}
 
 -- not carried out: nothing is changed
 pub refused-changes-nothing : (o : Asked) (p : Pool) → (code (answer o p) ≡ 0 → ⊥) → after o p ≡ p
@@ -83,15 +83,10 @@ full-if n i b p s h leaf few =
     let f = means-full i p leaf few in
     by-leb i (length (marks (p .tree))) (λ t k. rw (answer, no-room, t, f)) (λ t k. absurd (omega arith))
 
-in-range-not-full : (b : Bool) (v : ℕ) → in-range b (Done v) ≡ Full → ⊥
+-- the list does not answer it
+list-not-full : (o : Asked) (xs : List Bool) → list-answer o xs ≡ Full → ⊥
 unfolding code
-in-range-not-full true v e = omega (arith, ap code e)
-in-range-not-full false v e = omega (arith, ap code e)
-
-placed-not-full : (o : Option ℕ) → placed o ≡ Full → ⊥
-unfolding code
-placed-not-full none e = omega (arith, ap code e)
-placed-not-full (some v) e = omega (arith, ap code e)
+list-not-full o xs e = list-codes o xs .0 (ap code e)
 
 pub full-insert : (n i : ℕ) (b : Bool) (p : Pool) → Sound n p → answer (inserting i b) p ≡ Full → NoRoom i p
 unfolding answer no-room list-answer code
@@ -99,16 +94,15 @@ full-insert n i b p s e =
     by-leb i (length (marks (p .tree)))
     (λ t h. by-test (Pool.full i p)
     (λ f. let m = full-means 0 i p (whole-sized (p .tree) (s .whole)) f in record { in-range = h; leaf-full = m .0; few-free = m .1 })
-    (λ f. let k = rw (answer, no-room, t, f) at e in absurd (in-range-not-full (leb i (length (marks (p .tree)))) 0 k)))
-    (λ t h. let k = rw (answer, no-room, t) at e in absurd (in-range-not-full (leb i (length (marks (p .tree)))) 0 k))
+    (λ f. let k = rw (answer, no-room, t, f) at e in absurd (list-not-full (inserting i b) (marks (p .tree)) k)))
+    (λ t h. let k = rw (answer, no-room, t) at e in absurd (list-not-full (inserting i b) (marks (p .tree)) k))
 
 pub full-only-if : (n : ℕ) (o : Asked) (p : Pool) → Sound n p → answer o p ≡ Full → (i : ℕ) × (b : Bool) × (o ≡ inserting i b) × NoRoom i p
 unfolding answer no-room list-answer code
 full-only-if n (inserting i b) p s e = (i, b, refl, full-insert n i b p s e)
-full-only-if n (removing i) p s e = absurd (in-range-not-full (ltb i (length (marks (p .tree)))) _ e)
-full-only-if n (accessing i) p s e = absurd (in-range-not-full (ltb i (length (marks (p .tree)))) _ e)
-full-only-if n (ranking end b) p s e = absurd (in-range-not-full (leb end (length (marks (p .tree)))) _ e)
-full-only-if n (selecting zero b) p s e = absurd (omega (arith, ap code e))
-full-only-if n (selecting (suc k) b) p s e = absurd (placed-not-full (Marks.select b (suc k) (marks (p .tree))) e)
-full-only-if n quiet p s e = absurd (omega (arith, ap code e))
-full-only-if n unknown p s e = absurd (omega (arith, ap code e))
+full-only-if n (removing i) p s e = absurd (list-not-full (removing i) (marks (p .tree)) e)
+full-only-if n (accessing i) p s e = absurd (list-not-full (accessing i) (marks (p .tree)) e)
+full-only-if n (ranking end b) p s e = absurd (list-not-full (ranking end b) (marks (p .tree)) e)
+full-only-if n (selecting k b) p s e = absurd (list-not-full (selecting k b) (marks (p .tree)) e)
+full-only-if n quiet p s e = absurd (list-not-full quiet (marks (p .tree)) e)
+full-only-if n unknown p s e = absurd (list-not-full unknown (marks (p .tree)) e)

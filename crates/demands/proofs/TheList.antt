@@ -18,7 +18,7 @@ use Rattle.window.specs.Orders.{Asked, inserting, removing, accessing, ranking,
 use Rattle.window.specs.declared.answer.Answer.{Answer}
 use Rattle.window.specs.declared.answer.Answer.the-variants.{Done, Full, LeafLacks}
 use Rattle.demands.specs.Following.{Follows, NoneFull}
-use Rattle.demands.proofs.OrderByOrder.{after-full, after-marks}
+use Rattle.demands.proofs.OrderByOrder.{list-codes, after-full, after-marks}
 
 -- an order that finds no room
 pub one-order-full : (o : Asked) (p : Pool) → no-room o p ≡ true → (answer o p ≡ Full) × (after o p ≡ p)
@@ -59,23 +59,8 @@ the-list-with-room (o ∷ os) p h =
 
 -- no answer says that a leaf lacks a mark
 pub never-eleven : (o : Asked) (p : Pool) → code (answer o p) ≡ 11 → ⊥
-unfolding answer list-answer code
-never-eleven o p e = by-test (no-room o p) (λ t. absurd (omega (arith, rw (answer, t) at e))) (λ t. listed o (marks (p .tree)) (rw (answer, t) at e))
-  where
-    ranged : (b : Bool) (v : ℕ) → code (in-range b (Done v)) ≡ 11 → ⊥
-    ranged true v e = omega arith
-    ranged false v e = omega arith
-
-    found : (m : Option ℕ) → code (placed m) ≡ 11 → ⊥
-    found none e = omega arith
-    found (some v) e = omega arith
-
-    listed : (o : Asked) (xs : List Bool) → code (list-answer o xs) ≡ 11 → ⊥
-    listed (inserting i b) xs e = ranged (leb i (length xs)) 0 e
-    listed (removing i) xs e = ranged (ltb i (length xs)) _ e
-    listed (accessing i) xs e = ranged (ltb i (length xs)) _ e
-    listed (ranking end b) xs e = ranged (leb end (length xs)) _ e
-    listed (selecting zero b) xs e = omega arith
-    listed (selecting (suc k) b) xs e = found (Marks.select b (suc k) xs) e
-    listed quiet xs e = omega arith
-    listed unknown xs e = omega arith
+unfolding answer code
+never-eleven o p e =
+    by-test (no-room o p)
+    (λ t. absurd (omega (arith, rw (answer, t) at e)))
+    (λ t. absurd (omega (arith, rw (answer, t) at e, list-codes o (marks (p .tree)) .1)))

@@ -20,7 +20,7 @@ use Rattle.window.specs.Orders.{Asked, inserting, removing, accessing, ranking,
 use Rattle.window.specs.declared.answer.Answer.{Answer}
 use Rattle.window.specs.declared.answer.Answer.the-variants.{Done, Full}
 use Rattle.demands.specs.Following.{AgreeOrFull}
-use Rattle.demands.proofs.OrderByOrder.{never, by-room}
+use Rattle.demands.proofs.OrderByOrder.{by-room}
 
 -- what one order makes of both: they agree and are as they were to each other, or the smaller is full and the larger is not
 pub data Both (p q : Pool) (a b : Answer) : Type 0 where
