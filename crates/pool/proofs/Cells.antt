@@ -11,7 +11,7 @@ use lib.Dec.{ltb}
 use lib.ListN.{length, getD, set, length-set}
 use lib.Seq.{sets, length-sets, getD-set-same, getD-set-other, set-getD, ext-getD}
 use Rattle.bits.specs.declared.leaf.Leaf.{Leaf}
-use Rattle.pool.specs.Node.{free-cell, leaf-cell, fork-cell, of-kind, node-of, nodes-in, cell-at, node-at, put, Put}
+use Rattle.pool.specs.Node.{LeafOrFork, free-cell, leaf-cell, fork-cell, of-kind, node-of, nodes-in, cell-at, node-at, put, Put}
 use Rattle.pool.specs.declared.node.Cell.{Cell}
 use Rattle.pool.specs.declared.node.Fork.{Fork}
 use Rattle.pool.specs.declared.node.Node.{Node}
@@ -184,6 +184,35 @@ module _ (w : List ℕ) (n : ℕ) where
 
   pub free-says : (k : ℕ) → node-at w n ≡ free k → (n < nodes-in w) × (cell-at w n ≡ free-cell k)
   free-says k = says (free k) (λ b. let z : _≡_ {A = ℕ} 0 1 = cc in omega arith)
+
+-- ---- a leaf or a fork, told apart by one word
+
+module _ (w : List ℕ) (n : ℕ) where
+  -- a leaf's or a fork's words stand at its number
+  leaf-or-fork-says : (x : Node) → node-at w n ≡ x → LeafOrFork x → (n < nodes-in w) × (cell-at w n ≡ cell-of x)
+  leaf-or-fork-says (leaf l) e h = leaf-says w n l e
+  leaf-or-fork-says (fork f) e h = fork-says w n f e
+  leaf-or-fork-says (free k) e h = absurd h
+  leaf-or-fork-says broken e h = absurd h
+
+  pub leaf-or-fork-in : LeafOrFork (node-at w n) → n < nodes-in w
+  leaf-or-fork-in h = leaf-or-fork-says (node-at w n) refl h .0
+
+  pub leaf-or-fork-cell : LeafOrFork (node-at w n) → cell-at w n ≡ cell-of (node-at w n)
+  leaf-or-fork-cell h = leaf-or-fork-says (node-at w n) refl h .1
+
+-- the word that counts a left child's marks is 0 in a leaf, and not in a fork
+pub told-leaf : (x : Cell) (y : Node) → LeafOrFork y → x ≡ cell-of y → x .c ≡ 0 → leaf (record { low = x .a; high = x .b }) ≡ y
+told-leaf x (leaf l) h e z = ap (λ (u : Cell). leaf (record { low = u .a; high = u .b })) e
+told-leaf x (fork f) h e z = absurd (omega (arith, ap (λ (u : Cell). u .c) e))
+told-leaf x (free k) h e z = absurd h
+told-leaf x broken h e z = absurd h
+
+pub told-fork : (x : Cell) (y : Node) → LeafOrFork y → x ≡ cell-of y → 1 ≤ x .c → of-kind 2 x ≡ y
+told-fork x (leaf l) h e z = absurd (omega (arith, ap (λ (u : Cell). u .c) e))
+told-fork x (fork f) h e z = ap (of-kind 2) e
+told-fork x (free k) h e z = absurd h
+told-fork x broken h e z = absurd h
 
 -- ---- two words of a fork
 

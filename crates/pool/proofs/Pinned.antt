@@ -5,6 +5,7 @@ use denote.Ref.{now}
 use Rattle.pool.proofs.chain.next_free.Reads as next-free
 use Rattle.pool.proofs.node.fork_at.Reads as fork-at
 use Rattle.pool.proofs.node.leaf_at.Reads as leaf-at
+use Rattle.pool.proofs.node.leaf_or_fork.Reads as leaf-or-fork
 use Rattle.pool.proofs.node.less_left.Reads as less-left
 use Rattle.pool.proofs.node.move_node.Reads as move-node
 use Rattle.pool.proofs.node.node_at.Reads as node-at
@@ -18,6 +19,9 @@ node-count-pinned κs a r r′ w w′ p q = p ∙ sym q
 
 pub node-at-pinned : (κs : _) (a : _) (r r′ : _) (w w′ : _) → node-at.Post κs a r w → node-at.Post κs a r′ w′ → r ≡ r′
 node-at-pinned κs a r r′ w w′ p q = p ∙ sym q
+
+pub leaf-or-fork-pinned : (κs : _) (a : _) (r r′ : _) (w w′ : _) → leaf-or-fork.Post κs a r w → leaf-or-fork.Post κs a r′ w′ → r ≡ r′
+leaf-or-fork-pinned κs a r r′ w w′ p q = p ∙ sym q
 
 pub leaf-at-pinned : (κs : _) (a : _) (r r′ : _) (w w′ : _) → leaf-at.Post κs a r w → leaf-at.Post κs a r′ w′ → r ≡ r′
 leaf-at-pinned κs a r r′ w w′ p q = p ∙ sym q

@@ -11,11 +11,11 @@ use Rattle.model.specs.Pool.{Pool}
 use Rattle.model.specs.Sound.{Sized}
 use Rattle.model.specs.Tree as Tree
 use Rattle.model.specs.Tree.{Tree, top, marks, size, height, numbers}
-use Rattle.model.proofs.Leaves.{sized-weaken}
+use Rattle.model.proofs.Leaves.{sized-size, sized-weaken}
 use Rattle.bits.specs.Leaf.{leaf-of, bits-of}
 use Rattle.bits.specs.declared.leaf.Leaf.{Leaf}
 use Rattle.bits.proofs.Held.{held-bits}
-use Rattle.pool.specs.Node.{node-at}
+use Rattle.pool.specs.Node.{LeafOrFork, node-at}
 use Rattle.pool.specs.Layout.{fork-of, first-of, Holds, Chained, Laid, Rooted}
 use Rattle.pool.specs.declared.node.Fork.{Fork}
 use Rattle.pool.specs.declared.node.Node.{Node}
@@ -129,6 +129,12 @@ module _ {w : List ℕ} {n levels : ℕ} (P : Tree → Type 0) where
       let never : _≡_ {A = ℕ} 0 1 = cc in
       absurd (omega arith)
   by-fork (Tree.fork m l r) f h e p = p m l r h (let same : fork f ≡ fork (fork-of l r) = sym e ∙ fork-read m l r h in cc)
+
+-- a tree's own node is a leaf, or a fork whose left child has a mark
+pub rooted-node : {w : List ℕ} {n levels : ℕ} (t : Tree) → Rooted w n levels t → LeafOrFork (node-at w n)
+unfolding fork-of
+rooted-node (Tree.leaf m xs) h = rw (leaf-read m xs h) tt
+rooted-node (Tree.fork m l r) h = rw (fork-read m l r h) (omega (arith, sized-size 33 l (h .sized .0)))
 
 -- no tree stands where a free node, or none, was read
 pub not-free : {A : Type 0} {w : List ℕ} {n levels : ℕ} (t : Tree) (k : ℕ) → Rooted w n levels t → node-at w n ≡ free k → A

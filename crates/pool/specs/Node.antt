@@ -3,7 +3,7 @@
 --     free        0, next free number, 0, 0, 0, 0
 --     leaf        1, low word, high word, 0, 0, 0
 --     fork        2, left, right, left total, left ones, balance + 2
-use Prim.Native.Nat.{ℕ, zero, suc, _+_, _-_, _*_, _/_}
+use Prim.Native.Nat.{ℕ, zero, suc, _+_, _-_, _*_, _/_, _≤_}
 use mathlib.Core.Path.{_≡_}
 use mathlib.Core.Bool.{true, false}
 use mathlib.Core.List.{List}
@@ -88,6 +88,13 @@ pub record Put (w w′ : List ℕ) (n : ℕ) (x : Node) : Type 0 where
   pub else : (k : ℕ) → (k ≡ n → ⊥) → node-at w′ k ≡ node-at w k
 
 -- ---- the readers' answers
+
+-- a leaf, or a fork whose left child has a mark
+abbrev pub LeafOrFork : Node → Type 0
+LeafOrFork (leaf l) = Unit {0}
+LeafOrFork (fork f) = 1 ≤ f .«left_total»
+LeafOrFork (free k) = ⊥
+LeafOrFork broken = ⊥
 
 -- the leaf of a node, an empty one where it is none
 abbrev pub leaf-in : Node → Leaf

@@ -9,6 +9,7 @@ pub use node::Fork;
 pub use node::Node;
 pub use node::fork_at;
 pub use node::leaf_at;
+pub use node::leaf_or_fork;
 pub use node::less_left;
 pub use node::move_node;
 pub use node::node_at;

@@ -8,7 +8,7 @@ use bits::Leaf;
 ghost use mathlib.Core.Path.{_≡_};
 ghost use Prim.Native.Nat.{_+_, _-_, _*_, _<_, _≤_};
 ghost use lib.ListN.{getD, set};
-ghost use Rattle.pool.specs.Node.{cell-at, fork-cell, fork-in, free-cell, if-zero, leaf-cell, leaf-in, less-left, node-at, node-of, nodes-in, of-kind, put, put-node};
+ghost use Rattle.pool.specs.Node.{LeafOrFork, cell-at, fork-cell, fork-in, free-cell, if-zero, leaf-cell, leaf-in, less-left, node-at, node-of, nodes-in, of-kind, put, put-node};
 
 // The words of a node.
 const NODE_WORDS: u64 = 6;
@@ -148,6 +148,23 @@ pub fn node_at(nodes: &[u64], n: u64) -> Node
         return node_of(cell_at(nodes, n));
     }
     Node::Broken
+}
+
+// The node at n, where that is a leaf or a fork whose left child has a mark. The word of a fork that counts those marks is 0 in a leaf: it tells the
+// two apart, and no other word is tested.
+pub fn leaf_or_fork(nodes: &[u64], n: u64) -> Node
+    requires { ⌜ LeafOrFork (node-at (now nodes) n) ⌝ }
+    ensures { λ r. ⌜ r ≡ node-at (now (nodes .entry)) n ⌝ }
+{
+    let cell = cell_at(nodes, n);
+    if cell.c == 0 {
+        let leaf = Leaf {
+            low: cell.a,
+            high: cell.b,
+        };
+        return Node::Leaf(leaf);
+    }
+    fork_of(cell)
 }
 
 // The leaf at n, an empty one where none is.

@@ -1,30 +1,39 @@
 -- The questions along a path: what is known of the subtree that a walk stands on, and how a step keeps it.
-use Prim.Native.Nat.{ℕ, zero, suc, _+_, _-_, _^_, _≤_, _<_}
-use native.Mathlib.Nat.{zero-add}
+use Prim.Native.Nat.{ℕ, _+_, _-_, _/_, _%_, _^_, _≤_, _<_}
+use native.Mathlib.Nat.{add-zero, sub-zero, zero-add}
 use native.Mathlib.Omega.{arith}
 use borrow.Author.Tests.{lt-ltb, le-ltb}
 use mathlib.Core.Path.{_≡_, refl, sym, ap, _∙_}
 use mathlib.Core.Bool.{Bool, true, false}
 use mathlib.Core.List.{List, _++_}
 use mathlib.Core.Option.{Option, none, some}
-use lib.ListN.{length, take, length-take}
-use lib.Seq.{take-all}
+use lib.ListN.{length, take, replicate, length-append, length-take}
 use Rattle.model.specs.Edit.{leaf-at}
 use Rattle.model.specs.Marks.{access, count, further, ones, rank, select, wanted}
 use Rattle.model.specs.Tree as Tree
 use Rattle.model.specs.Tree.{Tree, marks, size}
+use Rattle.model.specs.Word.{bits, odd}
+use Rattle.model.proofs.Words.{bits-length}
+use Rattle.model.proofs.Cases.{by-test, by-ltb}
 use Rattle.model.proofs.Content.{size-marks}
-use Rattle.model.proofs.Counting.{count-append, count-both, further-zero, further-further, select-some, select-below, ones-le, wanted-length}
+use Rattle.model.proofs.Counting.{count-append, count-both, further-zero, further-further, select-in-second, select-none, select-some, select-below, ones-le, wanted-length}
 use Rattle.model.proofs.Paths.{access-left, access-right, rank-left, rank-right, select-left, select-right, count-size}
 use Rattle.bits.specs.Leaf.{leaf-of, bits-of}
 use Rattle.bits.specs.Select.{placed}
 use Rattle.bits.specs.declared.leaf.Leaf.{Leaf}
 use Rattle.bits.specs.declared.select.Place.{Place}
-use Rattle.bits.proofs.Held.{select-held}
+use Rattle.bits.specs.declared.select.Place.the-variants as Place
+use Rattle.bits.proofs.Held.{held-bits, select-held}
+use Rattle.bits.proofs.TwoWords.{bit-low, bit-high}
 use Rattle.pool.specs.Layout.{fork-of}
+use Rattle.pool.specs.Node.{node-at}
 use Rattle.pool.specs.declared.node.Fork.{Fork}
+use Rattle.pool.specs.declared.node.Node.the-variants.{Fork as fork}
 use Rattle.tree.specs.Query.{Near, Spotted, found-at, found-of, of-kind}
-use Rattle.tree.specs.declared.query.Spot.{Spot}
+use Rattle.tree.specs.Stepping.{Picked, step-left, step-right}
+use Rattle.tree.specs.declared.query.Found.the-variants.{At, TooFew}
+use Rattle.tree.specs.declared.steps.Step.{Step}
+use Rattle.tree.proofs.Down.{On, down-left, down-right}
 
 -- ---- where a place leads
 
@@ -62,7 +71,7 @@ module _ {t₀ : Tree} {place len at sum : ℕ} where
   }
 
   module _ (m : ℕ) (l r : Tree) (f : Fork) (e : f ≡ fork-of l r) (p : Reaching t₀ place len at sum (Tree.fork m l r)) where
-    pub reach-first : at < f .«left_total» → Reaching t₀ place (f .«left_total») at sum l
+    pub reach-first : at < f .«left_total» → Reaching t₀ place (f .«left_total») at (sum + 0) l
     unfolding size marks fork-of
     reach-first h =
         let k : at < size l = rw e at h in
@@ -72,7 +81,7 @@ module _ {t₀ : Tree} {place len at sum : ℕ} where
           within = k′;
           leaf = sym (leaf-left at m l r k) ∙ p .leaf;
           mark = sym (access-left l r at k) ∙ p .mark;
-          strikes = ap (λ (n : ℕ). sum + n) (sym (rank-left l r true at k′)) ∙ p .strikes;
+          strikes = omega (arith, p .strikes, rank-left l r true at k′);
         }
 
     pub reach-second : f .«left_total» ≤ at → Reaching t₀ place (len - f .«left_total») (at - f .«left_total») (sum + f .«left_ones») r
@@ -87,14 +96,27 @@ module _ {t₀ : Tree} {place len at sum : ℕ} where
           strikes = omega (arith, p .strikes, rank-right l r true at k);
         })
 
-    -- a subtree is not larger than the tree, and what is added is no more than what is asked for
+    -- a subtree is not larger than the tree
     pub reach-total : f .«left_total» ≤ len
     unfolding size fork-of
     reach-total = rw e (omega (arith, p .total))
 
-    pub reach-strikes : f .«left_total» ≤ at → sum + f .«left_ones» ≤ rank true place (marks t₀)
-    unfolding size marks fork-of
-    reach-strikes h = let k : size l ≤ at = rw e at h in rw e (omega (arith, p .strikes, rank-right l r true at k))
+-- A step of the walk, to the child that the place leads to.
+pub reach-step : {w : List ℕ} {n levels : ℕ} {t₀ : Tree} {place len at sum more : ℕ} (o : On w n levels (Reaching t₀ place len at sum)) {f : Fork} (s : Step)
+    → node-at w n ≡ fork f → (at < f .«left_total» → s ≡ step-left f at) → (f .«left_total» ≤ at → s ≡ step-right f len at)
+    → Picked (s .left) 0 (f .«left_ones») more → On w (s .child) (levels - 1) (Reaching t₀ place (s .length) (s .index) (sum + more))
+reach-step {at = at} o {f} s e left right x =
+    by-ltb at (f .«left_total»)
+    (λ _ h. rw (x .one (ap (λ (u : Step). u .left) (left h)), left h) (down-left o e _ (λ m l r q p. reach-first m l r f q p h)))
+    (λ _ h. rw (x .other (ap (λ (u : Step). u .left) (right h)), right h) (down-right o e _ (λ m l r q p. reach-second m l r f q p h)))
+
+-- the bit of a leaf at a place, in the word that holds it
+pub bit-picked : (low high i : ℕ) {first : Bool} {word : ℕ} → Picked first low high word → (first ≡ true → i < 64) → (first ≡ false → 64 ≤ i) → i < 128
+    → odd (word / 2 ^ (i % 64)) ≡ access i (bits 64 low ++ bits 64 high)
+bit-picked low high i {first} x passed failed h =
+    by-test first
+    (λ t. let l = passed t in let k : i % 64 ≡ i = omega arith in rw (x .one t, k) (bit-low low high i l))
+    (λ t. let l = failed t in let k : i % 64 ≡ i - 64 = omega arith in rw (x .other t, k) (bit-high low high i l h))
 
 -- there are no more marks of a kind than marks
 pub rank-most : (t : Tree) (b : Bool) (end : ℕ) → rank b end (marks t) ≤ size t
@@ -103,25 +125,28 @@ rank-most t b end = omega (arith, ones-le (wanted b (take end (marks t))), wante
 
 -- ---- select
 
--- A walk to the k-th mark of a kind in the tree t₀: it is the left-th of its kind in the subtree, before which so many marks stand.
-pub record Selecting (t₀ : Tree) (b : Bool) (k left before : ℕ) (t : Tree) : Type 0 where
-  pub one : 1 ≤ left
-  pub enough : left ≤ count b (marks t)
-  pub place : further before (select b left (marks t)) ≡ select b k (marks t₀)
+-- A walk to the k-th mark of a kind in the tree t₀: it is the one after `skip` of its kind in the subtree, before which so many marks stand. Where the
+-- subtree has too few, the tree ends with it.
+pub record Selecting (t₀ : Tree) (b : Bool) (k skip before : ℕ) (t : Tree) : Type 0 where
+  pub less : skip < k
+  pub place : further before (select b (skip + 1) (marks t)) ≡ select b k (marks t₀)
   pub room : before + size t ≤ size t₀
+  pub last : count b (marks t) ≤ skip → before + size t ≡ size t₀
 
-pub select-begin : (t : Tree) (b : Bool) (k : ℕ) → 1 ≤ k → k ≤ count b (marks t) → Selecting t b k k 0 t
-select-begin t b k h l = record { one = h; enough = l; place = further-zero (select b k (marks t)); room = omega arith }
+pub select-begin : (t : Tree) (b : Bool) (k : ℕ) → 1 ≤ k → Selecting t b k (k - 1) 0 t
+select-begin t b k h =
+    let whole : k - 1 + 1 ≡ k = omega arith in
+    record {
+      less = omega arith;
+      place = further-zero (select b (k - 1 + 1) (marks t)) ∙ ap (λ (j : ℕ). select b j (marks t)) whole;
+      room = omega arith;
+      last = λ _. zero-add (size t);
+    }
 
 -- how many marks of a kind the left child holds, from what its fork says
 pub kind-count : (b : Bool) (t : Tree) → of-kind b (size t) (count true (marks t)) ≡ count b (marks t)
 kind-count true t = refl
 kind-count false t = omega (arith, count-size t)
-
--- before the end of the tree stand all its marks
-pub rank-all : (t : Tree) (b : Bool) (len : ℕ) → size t ≡ len → rank b len (marks t) ≡ count b (marks t)
-unfolding rank
-rank-all t b len e = ap (count b) (take-all len (marks t) (omega (arith, size-marks t)))
 
 -- no more strikes stand before a place than marks
 pub rank-within : (t : Tree) (end : ℕ) → rank true end (marks t) ≤ end
@@ -134,43 +159,78 @@ unfolding rank
 kind-rank t true end h = refl
 kind-rank t false end h = omega (arith, count-both (take end (marks t)), length-take end (marks t), size-marks t)
 
-module _ {t₀ : Tree} {b : Bool} {k left before : ℕ} where
-  -- in a leaf the mark is found, at a place that can be counted
-  module _ (m : ℕ) (xs : List Bool) (x : Leaf) (e : x ≡ leaf-of xs) (h : length xs ≤ 127) (p : Selecting t₀ b k left before (Tree.leaf m xs)) (r : Place)
-      (a : r ≡ placed (select b left (bits-of x))) where
-    answer : r ≡ placed (select b left xs)
-    unfolding marks
-    answer = a ∙ ap (λ (y : Leaf). placed (select b left (bits-of y))) e ∙ ap placed (select-held xs b left (omega arith) (p .enough))
+-- a place before the end is told, counted from the beginning
+found-in : (before total p : ℕ) → before + p < total → found-at before total (Place.At p) ≡ At (before + p)
+found-in before total p h = rw (found-at, lt-ltb (before + p) total h)
 
-    pub select-near : size t₀ < 2 ^ 64 → Near before r
-    unfolding marks size placed
+-- a place past the end is none
+found-past : (before total n : ℕ) (o : Option ℕ) → before + n ≡ total → found-at before total (placed (further n o)) ≡ TooFew
+unfolding placed further
+found-past before total n none h = refl
+found-past before total n (some q) h = rw (found-at, le-ltb (before + (n + q)) total (omega arith))
+
+near-of : (before : ℕ) (o : Option ℕ) → ((p : ℕ) → o ≡ some p → before + p < 2 ^ 64) → Near before (placed o)
+unfolding placed
+near-of before none f = tt
+near-of before (some p) f = f p refl
+
+module _ {t₀ : Tree} {b : Bool} {k skip before : ℕ} where
+  -- in a leaf the mark is found, or the leaf is the last and has too few
+  module _ (m : ℕ) (xs : List Bool) (x : Leaf) (e : x ≡ leaf-of xs) (h : length xs ≤ 127) (p : Selecting t₀ b k skip before (Tree.leaf m xs)) (r : Place)
+      (a : r ≡ placed (select b (skip + 1) (bits-of x))) where
+    pub select-near : size t₀ + 128 < 2 ^ 64 → Near before r
+    unfolding bits-of size
     select-near l =
-        let q = select-some b left xs (p .one) (p .enough) in
-        rw (answer, q .1) (omega (arith, select-below b left xs (q .0) (q .1), p .room))
+        rw a (near-of before (select b (skip + 1) (bits-of x))
+        (λ q f. omega (arith, select-below b (skip + 1) (bits-of x) q f, length-append (bits 64 (x .low)) (bits 64 (x .high)), bits-length 64 (x .low), bits-length 64 (x .high), p .room)))
 
-    pub select-here : found-at before r ≡ found-of (select b k (marks t₀))
-    unfolding marks placed further
-    select-here =
-        let q = select-some b left xs (p .one) (p .enough) in
-        rw (answer, ← p .place, q .1)
+    -- the answer on the leaf's marks, and on the zeros past them
+    held : r ≡ placed (select b (skip + 1) (bits-of (leaf-of xs)))
+    held = a ∙ ap (λ (y : Leaf). placed (select b (skip + 1) (bits-of y))) e
 
-  module _ (m : ℕ) (l r : Tree) (f : Fork) (e : f ≡ fork-of l r) (p : Selecting t₀ b k left before (Tree.fork m l r)) where
-    pub select-first : left ≤ of-kind b (f .«left_total») (f .«left_ones») → Selecting t₀ b k left before l
+    pub select-here : (total : ℕ) → size t₀ ≡ total → found-at before total r ≡ found-of (select b k (marks t₀))
+    unfolding marks size placed further
+    select-here total z = by-ltb skip (count b xs) (λ _ l. found l) (λ _ l. few l)
+      where
+        found : skip < count b xs → found-at before total r ≡ found-of (select b k (marks t₀))
+        found l =
+            let q = select-some b (skip + 1) xs (omega arith) (omega arith) in
+            ap (found-at before total) (held ∙ ap placed (select-held xs b (skip + 1) (omega arith) (omega arith) ∙ q .1))
+            ∙ found-in before total (q .0) (omega (arith, select-below b (skip + 1) xs (q .0) (q .1), p .room))
+            ∙ ap (λ (o : Option ℕ). found-of (further before o)) (sym (q .1)) ∙ ap found-of (p .place)
+
+        few : count b xs ≤ skip → found-at before total r ≡ found-of (select b k (marks t₀))
+        few l =
+            ap (found-at before total)
+            (held ∙ ap placed (ap (select b (skip + 1)) (held-bits xs (omega arith)) ∙ select-in-second b (skip + 1) xs (replicate (128 - length xs) false) (omega arith)))
+            ∙ found-past before total (length xs) (select b (skip + 1 - count b xs) (replicate (128 - length xs) false)) (p .last l ∙ z)
+            ∙ ap (λ (o : Option ℕ). found-of (further before o)) (sym (select-none b (skip + 1) xs (omega arith))) ∙ ap found-of (p .place)
+
+  module _ (m : ℕ) (l r : Tree) (f : Fork) (e : f ≡ fork-of l r) (p : Selecting t₀ b k skip before (Tree.fork m l r)) where
+    pub select-first : skip < of-kind b (f .«left_total») (f .«left_ones») → Selecting t₀ b k (skip - 0) (before + 0) l
     unfolding size marks fork-of
     select-first h =
-        let n : left ≤ count b (marks l) = rw (kind-count b l) at (rw e at h) in
-        record { one = p .one; enough = n; place = ap (further before) (sym (select-left l r b left n)) ∙ p .place; room = omega (arith, p .room) }
+        let n : skip < count b (marks l) = rw (kind-count b l) at (rw e at h) in
+        rw (sub-zero skip, add-zero before) (record {
+          less = p .less;
+          place = ap (further before) (sym (select-left l r b (skip + 1) (omega arith))) ∙ p .place;
+          room = omega (arith, p .room);
+          last = λ c. absurd (omega arith);
+        })
 
-    pub select-second : of-kind b (f .«left_total») (f .«left_ones») < left
-        → Selecting t₀ b k (left - of-kind b (f .«left_total») (f .«left_ones»)) (before + f .«left_total») r
+    pub select-second : of-kind b (f .«left_total») (f .«left_ones») ≤ skip
+        → Selecting t₀ b k (skip - of-kind b (f .«left_total») (f .«left_ones»)) (before + f .«left_total») r
     unfolding size marks fork-of
     select-second h =
-        let n : count b (marks l) < left = rw (kind-count b l) at (rw e at h) in
+        let n : count b (marks l) ≤ skip = rw (kind-count b l) at (rw e at h) in
+        let left : skip + 1 - count b (marks l) ≡ skip - count b (marks l) + 1 = omega arith in
         rw (e, kind-count b l) (record {
-          one = omega arith;
-          enough = omega (arith, p .enough, count-append b (marks l) (marks r));
-          place = sym (further-further before (size l) _) ∙ ap (further before) (sym (select-right l r b left n)) ∙ p .place;
+          less = omega (arith, p .less);
+          place =
+              sym (further-further before (size l) _)
+              ∙ ap (further before) (ap (λ (j : ℕ). further (size l) (select b j (marks r))) (sym left) ∙ sym (select-right l r b (skip + 1) (omega arith))) ∙ p .place;
           room = omega (arith, p .room);
+          last = λ c. let whole = p .last (omega (arith, count-append b (marks l) (marks r))) in omega arith;
         })
 
     -- a left child has no more strikes than marks, and the marks before the right one can be counted
@@ -181,3 +241,13 @@ module _ {t₀ : Tree} {b : Bool} {k left before : ℕ} where
     pub select-before : before + f .«left_total» ≤ size t₀
     unfolding size fork-of
     select-before = rw e (omega (arith, p .room))
+
+-- A step of the walk, to the child that has the mark, where a test tells which.
+pub select-step : {w : List ℕ} {n levels : ℕ} {t₀ : Tree} {b : Bool} {k skip before : ℕ} (o : On w n levels (Selecting t₀ b k skip before)) {f : Fork}
+    {first : Bool} {here child total less : ℕ} → node-at w n ≡ fork f → here ≡ of-kind b (f .«left_total») (f .«left_ones»)
+    → Picked first (f .left) (f .right) child → Picked first 0 (f .«left_total») total → Picked first 0 here less
+    → (first ≡ true → skip < here) → (first ≡ false → here ≤ skip) → On w child (levels - 1) (Selecting t₀ b k (skip - less) (before + total))
+select-step o {f} {first} e z x y v passed failed =
+    by-test first
+    (λ t. rw (x .one t, y .one t, v .one t) (down-left o e _ (λ m l r q p. select-first m l r f q p (rw z at (passed t)))))
+    (λ t. rw (x .other t, y .other t, v .other t, z) (down-right o e _ (λ m l r q p. select-second m l r f q p (rw z at (failed t)))))

@@ -3,6 +3,7 @@ use Prim.Native.Nat.{ℕ, _+_, _-_, _^_, _≤_, _<_}
 use mathlib.Core.Path.{_≡_}
 use mathlib.Core.Bool.{Bool, true, false}
 use mathlib.Core.Option.{Option, none, some}
+use lib.Dec.{ltb}
 use lib.ListN.{length}
 use Rattle.model.specs.Edit.{leaf-at}
 use Rattle.model.specs.Marks.{access, rank}
@@ -12,17 +13,17 @@ use Rattle.bits.specs.declared.select.Place.{Place}
 use Rattle.bits.specs.declared.select.Place.the-variants.{At as at, Nothing as nothing}
 use Rattle.tree.specs.declared.query.Found.{Found}
 use Rattle.tree.specs.declared.query.Spot.{Spot}
-use Rattle.tree.specs.declared.query.Found.the-variants.{At, TooFew, Missing}
+use Rattle.tree.specs.declared.query.Found.the-variants.{At, TooFew}
 
 -- the place of a mark that the list has, or that there are too few of its kind
 abbrev pub found-of : Option ℕ → Found
 found-of none = TooFew
 found-of (some p) = At p
 
--- a place in a leaf, with the marks before the leaf counted in
-abbrev pub found-at : ℕ → Place → Found
-found-at before (at p) = At (before + p)
-found-at before nothing = Missing
+-- a place in a leaf, with the marks before the leaf counted in; past the marks there is none
+abbrev pub found-at : ℕ → ℕ → Place → Found
+found-at before total (at p) = elim (ltb (before + p) total) [ true ↦ At (before + p) | false ↦ TooFew ]
+found-at before total nothing = TooFew
 
 -- how many of so many marks are of a kind, where so many are strikes
 abbrev pub of-kind : Bool → ℕ → ℕ → ℕ

@@ -1,6 +1,7 @@
 -- One step down a tree, to a fork's left child or to its right one.
 use Prim.Native.Nat.{ℕ, _-_}
-use mathlib.Core.Bool.{true, false}
+use mathlib.Core.Path.{_≡_}
+use mathlib.Core.Bool.{Bool, true, false}
 use Rattle.pool.specs.declared.node.Fork.{Fork}
 use Rattle.tree.specs.declared.steps.Step.{Step}
 
@@ -10,3 +11,8 @@ step-left f i = record { left = true; child = f .left; length = f .«left_total�
 -- the marks of the left child are passed over
 abbrev pub step-right : Fork → ℕ → ℕ → Step
 step-right f total i = record { left = false; child = f .right; length = total - f .«left_total»; index = i - f .«left_total» }
+
+-- r is the first of two numbers where a test passed, and the other one where it failed
+pub record Picked (first : Bool) (a b r : ℕ) : Type 0 where
+  pub one : first ≡ true → r ≡ a
+  pub other : first ≡ false → r ≡ b

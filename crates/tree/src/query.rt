@@ -1,19 +1,24 @@
 // Asking a tree: each question goes down one path.
-ghost use mathlib.Core.Bool.{true, false};
+ghost use mathlib.Core.Bool.{true};
 ghost use mathlib.Core.Path.{_≡_};
 ghost use Prim.Native.Nat.{_≤_, _<_};
 ghost use lib.ListN as ListN;
 ghost use Rattle.model.specs.Edit.{leaf-at};
 ghost use Rattle.model.specs.Marks as Marks;
 ghost use Rattle.model.specs.Tree.{Tree, marks, size};
+ghost use Rattle.bits.specs.Leaf.{bits-of};
 ghost use Rattle.pool.specs.Layout.{Rooted};
 ghost use Rattle.tree.specs.Query.{Near, Spotted, found-at, found-of, of-kind};
 use crate::LEVELS;
+use crate::steps::either;
+use crate::steps::toward;
 use bits::Leaf;
 use bits::Place;
 use bits::select128;
 use pool::Node;
-use pool::node_at;
+use pool::leaf_or_fork;
+
+const WORD_BITS: u64 = 64;
 
 // Where a place of a tree lies: the leaf, how many marks it holds, the place in it, and how many strikes stand before the leaf.
 pub struct Spot {
@@ -41,7 +46,7 @@ fn reach(nodes: &[u64], root: u64, length: u64, place: u64) -> Spot
     let mut ones = 0;
     let mut levels = LEVELS;
     loop {
-        match node_at(nodes, n) {
+        match leaf_or_fork(nodes, n) {
             Node::Leaf(leaf) => {
                 return Spot {
                     leaf,
@@ -51,19 +56,12 @@ fn reach(nodes: &[u64], root: u64, length: u64, place: u64) -> Spot
                 };
             }
             Node::Fork(fork) => {
-                if levels == 0 {
-                    return nowhere();
-                }
                 levels -= 1;
-                if at < fork.left_total {
-                    len = fork.left_total;
-                    n = fork.left;
-                } else {
-                    len -= fork.left_total;
-                    at -= fork.left_total;
-                    ones += fork.left_ones;
-                    n = fork.right;
-                }
+                let step = toward(fork, len, at);
+                n = step.child;
+                len = step.length;
+                at = step.index;
+                ones += either(step.left, 0, fork.left_ones);
             }
             Node::Free(_) => return nowhere(),
             Node::Broken => return nowhere(),
@@ -98,7 +96,16 @@ pub fn access(nodes: &[u64], root: u64, length: u64, index: u64) -> bool
 {
     let spot = reach(nodes, root, length, index);
     let leaf = spot.leaf;
-    leaf.bit_at(spot.at)
+    mark_at(leaf, spot.at)
+}
+
+// The bit of a leaf at a place, read off the word that holds it. The word is chosen without a jump.
+fn mark_at(leaf: Leaf, at: u64) -> bool
+    requires { ⌜ at < 128 ⌝ }
+    ensures { λ r. ⌜ r ≡ Marks.access at (bits-of leaf) ⌝ }
+{
+    let word = either(at < WORD_BITS, leaf.low, leaf.high);
+    (word >> (at % WORD_BITS)) % 2 == 1
 }
 
 // How many strikes stand before a place.
@@ -130,42 +137,29 @@ pub fn rank(nodes: &[u64], root: u64, length: u64, end: u64, bit: bool) -> u64
     wanted(end, strikes(nodes, root, length, end), bit)
 }
 
-// The place of the k-th strike, or quiet frame, k from 1.
+// The place of the k-th strike, or quiet frame, k from 1. The walk passes over `skip` of the kind; where the tree has too few it ends in the last leaf.
 pub fn select(nodes: &[u64], root: u64, length: u64, bit: bool, k: u64) -> Found
     requires { ⌜ ((t : Tree) × Rooted (now nodes) root 12 t × (size t ≡ length) × (1 ≤ k)) ⌝ }
     ensures { λ r. ⌜ ((t : Tree) → Rooted (now (nodes .entry)) root 12 t → size t ≡ length → r ≡ found-of (Marks.select bit k (marks t))) ⌝ }
 {
-    if rank(nodes, root, length, length, bit) < k {
-        return Found::TooFew;
-    }
-    select_below(nodes, root, bit, k)
-}
-
-// The same where the tree has as many.
-fn select_below(nodes: &[u64], root: u64, bit: bool, k: u64) -> Found
-    requires { ⌜ ((t : Tree) × Rooted (now nodes) root 12 t × (1 ≤ k) × (k ≤ Marks.count bit (marks t))) ⌝ }
-    ensures { λ r. ⌜ ((t : Tree) → Rooted (now (nodes .entry)) root 12 t → k ≤ Marks.count bit (marks t) → r ≡ found-of (Marks.select bit k (marks t))) ⌝ }
-{
     let mut n = root;
-    let mut left = k;
+    let mut skip = k - 1;
     let mut before = 0;
     let mut levels = LEVELS;
     loop {
-        match node_at(nodes, n) {
-            Node::Leaf(leaf) => return placed(before, select128(leaf.low, leaf.high, bit, left)),
+        match leaf_or_fork(nodes, n) {
+            Node::Leaf(leaf) => return placed(
+                before,
+                length,
+                select128(leaf.low, leaf.high, bit, skip + 1),
+            ),
             Node::Fork(fork) => {
-                if levels == 0 {
-                    return Found::Missing;
-                }
                 levels -= 1;
                 let here = wanted(fork.left_total, fork.left_ones, bit);
-                if left <= here {
-                    n = fork.left;
-                } else {
-                    left -= here;
-                    before += fork.left_total;
-                    n = fork.right;
-                }
+                let first = skip < here;
+                n = either(first, fork.left, fork.right);
+                before += either(first, 0, fork.left_total);
+                skip -= either(first, 0, here);
             }
             Node::Free(_) => return Found::Missing,
             Node::Broken => return Found::Missing,
@@ -173,13 +167,19 @@ fn select_below(nodes: &[u64], root: u64, bit: bool, k: u64) -> Found
     }
 }
 
-// A place in a leaf, with the marks before the leaf counted in.
-fn placed(before: u64, place: Place) -> Found
+// A place in a leaf, with the marks before the leaf counted in. The zeros past the marks of the last leaf are no quiet frames.
+fn placed(before: u64, length: u64, place: Place) -> Found
     requires { ⌜ Near before place ⌝ }
-    ensures { λ r. ⌜ r ≡ found-at before place ⌝ }
+    ensures { λ r. ⌜ r ≡ found-at before length place ⌝ }
 {
     match place {
-        Place::At(at) => Found::At(before + at),
-        Place::Nothing => Found::Missing,
+        Place::At(at) => {
+            let found = before + at;
+            if found < length {
+                return Found::At(found);
+            }
+            Found::TooFew
+        }
+        Place::Nothing => Found::TooFew,
     }
 }

@@ -1,7 +1,7 @@
 // One step down a tree.
 ghost use mathlib.Core.Path.{_≡_};
 ghost use Prim.Native.Nat.{_≤_, _<_};
-ghost use Rattle.tree.specs.Stepping.{step-left, step-right};
+ghost use Rattle.tree.specs.Stepping.{Picked, step-left, step-right};
 use pool::Fork;
 
 // The child of a fork that a place leads to, whether it is the left one, how many marks it holds, and the place in it.
@@ -18,18 +18,18 @@ pub fn toward(fork: Fork, length: u64, index: u64) -> Step
     ensures { λ r. ⌜ (index < fork .«left_total» → r ≡ step-left fork index) ⌝ }
     ensures { λ r. ⌜ (fork .«left_total» ≤ index → r ≡ step-right fork length index) ⌝ }
 {
-    if index < fork.left_total {
-        return Step {
-            left: true,
-            child: fork.left,
-            length: fork.left_total,
-            index,
-        };
-    }
+    let left = index < fork.left_total;
     Step {
-        left: false,
-        child: fork.right,
-        length: length - fork.left_total,
-        index: index - fork.left_total,
+        left,
+        child: either(left, fork.left, fork.right),
+        length: either(left, fork.left_total, length - fork.left_total),
+        index: index - either(left, 0, fork.left_total),
     }
+}
+
+// One of two numbers. Each number of a step is chosen by itself, and so without a jump, which a walk to any place would have the processor guess.
+pub fn either(first: bool, a: u64, b: u64) -> u64
+    ensures { λ r. ⌜ Picked first a b r ⌝ }
+{
+    if first { a } else { b }
 }

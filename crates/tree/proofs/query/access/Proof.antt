@@ -1,7 +1,6 @@
 -- The mark is read off the leaf that the place leads to. Assumes nothing.
 use native.Mathlib.Omega.{arith}
-use borrow.Author.Needs.{needs}
-use mathlib.Core.Path.{_≡_, ap, _∙_}
+use mathlib.Core.Path.{ap, _∙_}
 use Rattle.model.specs.Marks.{access}
 use Rattle.bits.specs.Leaf.{bits-of}
 use Rattle.bits.specs.declared.leaf.Leaf.{Leaf}
@@ -12,13 +11,16 @@ use Rattle.tree.proofs.query.access.Tie as tie
 reach-requires : tie.Need-reach-requires
 reach-requires c κs = let p = c .before .pre in (p .0, p .1, p .2, omega arith)
 
-bit-at-requires : tie.Need-bit-at-requires
-bit-at-requires c κs = search needs
+mark-at-requires : tie.Need-mark-at-requires
+mark-at-requires c κs =
+    let s = c .before .before .before in
+    let q = c .before .reach .ensures (s .pre .0) (s .pre .1) (s .pre .2) (omega (arith, s .pre .3)) in
+    omega (arith, q .within, q .small)
 
 returns : tie.Need-returns
 returns c = λ t h e.
     let q = c .before .before .reach .ensures t h e (omega arith) in
-    c .bit-at .ensures ∙ ap (λ (x : Leaf). access (c .before .before .reach .result .at) (bits-of x)) (q .leaf) ∙ access-held _ (c .before .before .reach .result .at) (omega (arith, q .small)) ∙ q .mark
+    c .mark-at .ensures ∙ ap (λ (x : Leaf). access (c .before .before .reach .result .at) (bits-of x)) (q .leaf) ∙ access-held _ (c .before .before .reach .result .at) (omega (arith, q .small)) ∙ q .mark
 
 pub access-spec : {M : Type 1} → statement M
-access-spec = tie.close (tie.spec reach-requires bit-at-requires returns)
+access-spec = tie.close (tie.spec reach-requires mark-at-requires returns)
