@@ -1,8 +1,14 @@
 /* The window of marks for a C host: one pool of 64-bit words, lent for the time of a call. No heap, no state of its own.
  *
  * A pool of N nodes, 1 to 1,023, is 6 * (N + 1) words. Every call takes arbitrary words, tests them itself and ends; a refusal changes no
- * word of what it was lent. Slices that are written must not overlap other slices of the same call. A pointer must be aligned, and not null
- * also where its count is 0.
+ * word of what it was lent.
+ *
+ * Pointers   are aligned as uint64_t is (8 bytes), and not null also where their count is 0. Slices that are written must not overlap other
+ *            slices of the same call.
+ * Stack      sz_build uses some 49,000 bytes, the others some 3,000 (measured; docs/FLIGHT.md). Recursion is at most 12 levels deep.
+ * Reentrancy No static data: calls on pools that do not overlap may be made at the same time. A pool must not change during a call on it
+ *            but by that call.
+ * Needs      memcpy and memset.
  */
 #ifndef SPELUNZONE_H
 #define SPELUNZONE_H
@@ -14,19 +20,21 @@
 extern "C" {
 #endif
 
+/* The codes. All but SZ_DONE are refusals: the value beside them is 0, and nothing was changed. */
 enum {
-    SZ_DONE = 0,
-    SZ_OUT_OF_RANGE = 1,
-    SZ_NO_ZEROTH = 2,
-    SZ_TOO_FEW = 3,
-    SZ_FULL = 4,
-    SZ_MALFORMED = 5,
-    SZ_WRONG_SIZE = 6,
-    SZ_NOT_SOUND = 7,
-    SZ_SHORT_OUTPUT = 8,
-    SZ_PART_ORDER = 9,
-    SZ_TOO_LONG = 10,
-    SZ_LEAF_LACKS = 11
+    SZ_DONE = 0,         /* done; the value is the call's or the order's */
+    SZ_OUT_OF_RANGE = 1, /* an order: there is no such place */
+    SZ_NO_ZEROTH = 2,    /* a select: k is 0, and k counts from 1 */
+    SZ_TOO_FEW = 3,      /* a select: there are fewer than k such marks */
+    SZ_FULL = 4,         /* an insert: its leaf holds 127 marks and fewer than two nodes are free; build: more leaves than nodes for them.
+                            The mark was not taken, and none was dropped for it */
+    SZ_MALFORMED = 5,    /* an order: no such number, a bit that is neither 0 nor 1, or a word that is to be 0 */
+    SZ_WRONG_SIZE = 6,   /* a call: no pool has so many words */
+    SZ_NOT_SOUND = 7,    /* a call: the pool's words are damaged */
+    SZ_SHORT_OUTPUT = 8, /* a call: the output has too few words */
+    SZ_PART_ORDER = 9,   /* run: the orders are not three words each */
+    SZ_TOO_LONG = 10,    /* build: the length is more than 64 for each word */
+    SZ_LEAF_LACKS = 11   /* a select in a damaged tree; a pool that is sound, and others are refused, never gives it */
 };
 
 /* The orders of a run, three words each: the number, and then */

@@ -26,9 +26,12 @@ mod dynamic_wavelet_matrix {
     pub(crate) mod dynamic_bit_vector;
 }
 
+pub mod orders;
+
 pub use dynamic_wavelet_matrix::dynamic_bit_vector::leaf::{
     Inserted, leaf_access, leaf_insert, leaf_join_after, leaf_join_before, leaf_rank, leaf_remove, split_leaf,
 };
+pub use dynamic_wavelet_matrix::dynamic_bit_vector::tree::Part;
 pub use dynamic_wavelet_matrix::dynamic_bit_vector::vector::{Refusal, Vector};
 
 use traits::utils::bit_select::BitSelect;

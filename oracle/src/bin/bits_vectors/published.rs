@@ -84,7 +84,7 @@ fn breaks<T>(name: &str, call: impl Fn() -> T + panic::UnwindSafe) {
     assert!(panic::catch_unwind(call).is_err(), "the published code no longer breaks: {name}");
 }
 
-// The places where the Rust stops. It is built with its assertions and with checks on its sums and shifts.
+// The places where the Rust stops, or parts from the list. It is built with its assertions and with checks on its sums and shifts.
 pub fn known_breaks() {
     let hook = panic::take_hook();
     panic::set_hook(Box::new(|_| ()));
@@ -98,4 +98,6 @@ pub fn known_breaks() {
     breaks("k = 2^32, 128 bits", || bit_select128(0, true, 1 << 32));
     breaks("k = 2^32 + 1", || bit_select64(22, true, (1 << 32) + 1));
     panic::set_hook(hook);
+    // and where it keeps bits past a leaf's length
+    assert_eq!(leaf_join_after(0b10, 1, 0, 1), 0b100);
 }

@@ -2,8 +2,8 @@
 //! marks.
 
 use super::layout::{built, need};
-use super::list::bits_of;
 use super::request::*;
+use oracle::orders::list::bits_of;
 
 const LONGEST: u64 = 32768;
 const LAST: u64 = 2000;

@@ -1,13 +1,6 @@
 //! What a request of `window_replay` holds, and how it and its answer are written as words.
 
-pub const INSERT: u64 = 1;
-pub const REMOVE: u64 = 2;
-pub const ACCESS: u64 = 3;
-pub const RANK: u64 = 4;
-pub const SELECT: u64 = 5;
-pub const QUIET: u64 = 6;
-
-pub type Order = [u64; 3];
+pub use oracle::orders::*;
 
 /// A build of `words` and `length` into `size` words of `fill`, orders on what was built, and the word put at `at` before check and
 /// values are called, the latter with an output of `room` words. So many of the pool's words are `shown` afterwards.
@@ -23,9 +16,6 @@ pub struct Request {
     pub word: u64,
     pub shown: usize,
 }
-
-/// A code and a value.
-pub type Pair = [u64; 2];
 
 #[derive(Clone, Debug, PartialEq, Eq)]
 pub struct Answer {

@@ -1,6 +1,7 @@
 //! The published bit vector with numbers and an enum for its answers.
 
 use super::DynamicBitVector;
+use super::tree::{self, Part};
 use crate::traits::bit_vector::{bit_vector::BitVectorTrait, dynamic_bit_vector::DynamicBitVectorTrait};
 use pyo3::{Kind, PyErr};
 
@@ -29,6 +30,16 @@ impl Vector {
     /// The first `len` bits of the blocks, lowest first. A length of 0 with blocks present panics.
     pub fn new(blocks: Vec<u128>, len: usize) -> Self {
         Vector(DynamicBitVector::new(blocks, len))
+    }
+
+    /// A vector with such a tree. Nothing is tested: what the list says of the totals, ones and balances is taken as it is.
+    pub fn of_parts(parts: &[Part]) -> Self {
+        Vector(tree::vector(parts))
+    }
+
+    /// The nodes of its tree.
+    pub fn parts(&self) -> Vec<Part> {
+        tree::parts(&self.0)
     }
 
     /// The bits in blocks of 128, the last one padded with zeros.
