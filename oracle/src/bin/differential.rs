@@ -10,6 +10,8 @@
 
 #![allow(clippy::result_large_err)]
 
+#[path = "differential/beside.rs"]
+mod beside;
 #[path = "differential/counts.rs"]
 mod counts;
 #[path = "differential/damage.rs"]
@@ -32,15 +34,13 @@ mod replay;
 mod runs;
 #[path = "differential/script.rs"]
 mod script;
-#[path = "differential/session.rs"]
-mod session;
 #[path = "differential/shapes.rs"]
 mod shapes;
 
+use beside::{Difference, Fault};
 use counts::{CALLS, Counts, Progress};
 use random::Random;
 use script::Script;
-use session::{Difference, Fault};
 use std::process::ExitCode;
 use std::sync::atomic::Ordering;
 

@@ -1,9 +1,9 @@
 //! Every small window with every order on it, and every pair of edits on windows that are smaller still.
 
 use super::Failure;
+use super::beside::{Beside, Difference};
 use super::counts::{Counts, Progress};
 use super::script::Script;
-use super::session::{Difference, Session};
 use oracle::orders::*;
 
 /// All six orders at every place, up to two past the end, with both marks, and every k up to one above the length.
@@ -25,16 +25,16 @@ fn all_edits(length: u64) -> Vec<Order> {
 }
 
 // Serves the orders on a copy of a window; after an edit everything that can be asked is asked.
-fn serve(start: &Session, orders: &[Order], counts: &mut Counts) -> Result<Session, Difference> {
-    let mut session = start.clone();
+fn serve(start: &Beside, orders: &[Order], counts: &mut Counts) -> Result<Beside, Difference> {
+    let mut beside = start.clone();
     for order in orders {
-        session.order(*order, counts)?;
+        beside.order(*order, counts)?;
         if matches!(order[0], INSERT | REMOVE) {
-            session.look(counts)?;
-            session.ask_all(counts)?;
+            beside.look(counts)?;
+            beside.ask_all(counts)?;
         }
     }
-    Ok(session)
+    Ok(beside)
 }
 
 // A window of up to 64 marks with one, two or three nodes, and what is done on it.
@@ -45,7 +45,7 @@ fn window(length: u64, bits: u64, pairs: bool, counts: &mut Counts) -> Result<()
         let script = Script { nodes, length, words: words.clone(), orders: orders.to_vec() };
         move |difference| Failure::Script(script, difference)
     };
-    let start = Session::new(nodes, &words, length, None, counts).map_err(failure(&[]))?.expect("64 marks fit a node");
+    let start = Beside::new(nodes, &words, length, None, counts).map_err(failure(&[]))?.expect("64 marks fit a node");
     for first in if pairs { all_edits(length) } else { all_orders(length) } {
         let once = serve(&start, &[first], counts).map_err(failure(&[first]))?;
         if pairs {

@@ -1,11 +1,11 @@
 //! Every refusal of every call, and which comes first where several could be told. Each lent word, and words on either side, is held to what it was.
 
 use super::Failure;
+use super::beside::Beside;
 use super::counts::{BUILD, CHECK, Counts, Progress, RUN, VALUES};
 use super::lent::Lent;
 use super::random::Random;
 use super::script::Script;
-use super::session::Session;
 use oracle::orders::*;
 use spelunzone::{MOST_NODES, Refusal, build, check, pool_words, run, values};
 
@@ -107,7 +107,7 @@ fn builds(size: usize, pool: &Lent, counts: &mut Counts) -> Result<(), Failure> 
 }
 
 /// Orders of any number with any second and third word, on a window; the list tells which refusal comes first.
-fn orders(start: &Session, script: &Script, counts: &mut Counts) -> Result<(), Failure> {
+fn orders(start: &Beside, script: &Script, counts: &mut Counts) -> Result<(), Failure> {
     let length = start.list.len() as u64;
     let seconds = [0, 1, 2, length.saturating_sub(1), length, length + 1, length + 2, 1 << 32, (1 << 32) + 1, u64::MAX];
     for number in [0, 1, 2, 3, 4, 5, 6, 7, 8, 1 << 32, (1 << 32) + 1, u64::MAX] {
@@ -133,14 +133,14 @@ fn grown(
     inserts: u64,
     random: &mut Random,
     counts: &mut Counts,
-) -> Result<(Session, Script), Failure> {
+) -> Result<(Beside, Script), Failure> {
     let mut script = Script { nodes, length, words: random.words(length), orders: Vec::new() };
     script.orders = (0..inserts).map(|_| [INSERT, length / 2, random.below(2)]).collect();
     let failure = |difference| Failure::Script(script.clone(), difference);
-    let mut session =
-        Session::new(nodes, &script.words, length, None, counts).map_err(failure)?.expect("the length fits");
-    script.orders.iter().try_for_each(|order| session.order(*order, counts)).map_err(failure)?;
-    Ok((session, script))
+    let mut beside =
+        Beside::new(nodes, &script.words, length, None, counts).map_err(failure)?.expect("the length fits");
+    script.orders.iter().try_for_each(|order| beside.order(*order, counts)).map_err(failure)?;
+    Ok((beside, script))
 }
 
 pub fn refusals(random: &mut Random, counts: &mut Counts, progress: &mut Progress) -> Result<(), Failure> {
@@ -156,9 +156,9 @@ pub fn refusals(random: &mut Random, counts: &mut Counts, progress: &mut Progres
         (1023, 9000, 0),
     ];
     for (nodes, length, inserts) in windows {
-        let (session, script) = grown(nodes, length, inserts, random, counts)?;
-        orders(&session, &script, counts)?;
-        let sound = session.pool.words();
+        let (beside, script) = grown(nodes, length, inserts, random, counts)?;
+        orders(&beside, &script, counts)?;
+        let sound = beside.pool.words();
         for size in [0, 1, 5, 6, 7, 11, 12, 13, 6143, 6144, 6145, 6150, sound.len() - 1, sound.len(), sound.len() + 1] {
             for damaged in [false, true] {
                 if size != sound.len() || !damaged || size >= 12 {

@@ -1,9 +1,9 @@
 //! Plays a script from its start and makes a failing one shorter.
 
+use super::beside::{Beside, Difference, Fault};
 use super::counts::Counts;
 use super::lent::Lent;
 use super::script::Script;
-use super::session::{Difference, Fault, Session};
 use oracle::orders::list;
 use spelunzone::{MOST_NODES, build, pool_words, run};
 
@@ -12,35 +12,35 @@ const LOOK_EVERY: usize = 16;
 
 /// The first difference of a script, its orders served one by one and then as one list.
 pub fn play(script: &Script, fault: Fault, counts: &mut Counts) -> Result<(), Difference> {
-    let Some(mut session) = Session::new(script.nodes, &script.words, script.length, fault, counts)? else {
+    let Some(mut beside) = Beside::new(script.nodes, &script.words, script.length, fault, counts)? else {
         return Ok(());
     };
     for (index, order) in script.orders.iter().enumerate() {
-        session.order(*order, counts)?;
+        beside.order(*order, counts)?;
         if index % LOOK_EVERY == LOOK_EVERY - 1 {
-            session.look(counts)?;
+            beside.look(counts)?;
         }
     }
-    session.look(counts)?;
-    at_once(script, &session, counts)
+    beside.look(counts)?;
+    at_once(script, &beside, counts)
 }
 
 /// The orders of a script as one list are answered as one by one, and leave the same words.
-pub fn at_once(script: &Script, session: &Session, counts: &mut Counts) -> Result<(), Difference> {
+pub fn at_once(script: &Script, beside: &Beside, counts: &mut Counts) -> Result<(), Difference> {
     counts.lists += 1;
     let mut pool = Lent::spare(pool_words(script.nodes));
     let mut out = Lent::spare(2 * script.orders.len());
     let built = build(pool.words_mut(), &script.words, script.length);
     let ran = run(pool.words_mut(), script.orders.as_flattened(), out.words_mut());
     let wanted = (Ok(script.length), Ok(script.orders.len() as u64), true, true, true);
-    let answers = out.words() == session.answers.as_flattened();
-    let came = (built, ran, answers, pool == session.pool, out.margins_stay());
+    let answers = out.words() == beside.answers.as_flattened();
+    let came = (built, ran, answers, pool == beside.pool, out.margins_stay());
     if wanted == came {
         return Ok(());
     }
     let what =
         "build, then run of all orders as one list: the answers and the pool as one by one, and the margins".into();
-    Err(Difference { served: session.served, what, wanted: format!("{wanted:?}"), came: format!("{came:?}") })
+    Err(Difference { served: beside.served, what, wanted: format!("{wanted:?}"), came: format!("{came:?}") })
 }
 
 /// No more plays than this are spent on a script.

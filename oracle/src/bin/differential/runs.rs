@@ -3,11 +3,11 @@
 //! asked again and again.
 
 use super::Failure;
+use super::beside::{Beside, Difference, Fault};
 use super::counts::{Counts, Progress};
 use super::random::Random;
 use super::replay::at_once;
 use super::script::Script;
-use super::session::{Difference, Fault, Session};
 use oracle::orders::*;
 use spelunzone::MOST_NODES;
 
@@ -131,22 +131,22 @@ fn drive(
     fault: Fault,
     counts: &mut Counts,
 ) -> Result<(), Difference> {
-    let started = Session::new(script.nodes, &script.words, script.length, fault, counts)?;
-    let Some(mut session) = started else { return Ok(()) };
+    let started = Beside::new(script.nodes, &script.words, script.length, fault, counts)?;
+    let Some(mut beside) = started else { return Ok(()) };
     for index in 1..=orders {
-        let length = session.list.len();
+        let length = beside.list.len();
         if random.chance(120) {
             way = random.way(length as u64);
         }
         let order = random.order(way, length as u64);
         script.orders.push(order);
-        session.order(order, counts)?;
+        beside.order(order, counts)?;
         if index % if length < LARGE { LOOK_SMALL } else { LOOK_LARGE } == 0 {
-            session.look(counts)?;
+            beside.look(counts)?;
         }
     }
-    session.look(counts)?;
-    at_once(script, &session, counts)
+    beside.look(counts)?;
+    at_once(script, &beside, counts)
 }
 
 /// Runs until so many orders were served.

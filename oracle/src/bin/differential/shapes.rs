@@ -2,11 +2,11 @@
 //! the published Rust with the same tree.
 
 use super::Failure;
+use super::beside::Beside;
 use super::counts::{Counts, Progress};
 use super::layout;
 use super::random::Random;
 use super::script;
-use super::session::Session;
 use oracle::Part;
 use oracle::orders::*;
 
@@ -121,14 +121,14 @@ fn places(parts: &[Part], random: &mut Random) -> Vec<u64> {
 fn edits(random: &mut Random, height: u64, counts: &mut Counts) -> Result<(), Failure> {
     let words = random.sound_pool(height);
     let pool = layout::read(&words).expect("the pool that was made is well-formed");
-    let start = Session::of_pool(&words, &pool.parts);
+    let start = Beside::of_pool(&words, &pool.parts);
     let places = places(&pool.parts, random);
     let orders = places.iter().flat_map(|&at| [[INSERT, at, at % 2], [REMOVE, at, 0]]);
     let some = if height > 3 { 8 } else { 1 };
     let from = random.place(some);
     for order in orders.skip(from).step_by(some) {
-        let mut session = start.clone();
-        let held = session.look(counts).and_then(|()| session.order(order, counts)).and_then(|()| session.look(counts));
+        let mut beside = start.clone();
+        let held = beside.look(counts).and_then(|()| beside.order(order, counts)).and_then(|()| beside.look(counts));
         held.map_err(|difference| Failure::Words(words.clone(), script::line(order), difference))?;
     }
     Ok(())

@@ -1,5 +1,5 @@
 //! One window three times over: in a pool of the library's, as a plain list and in the published Rust. Each order goes to all of them, and the
-//! first answer or word that is not as it is to be ends the session.
+//! first answer or word that is not as it is to be ends the run.
 
 #[path = "../window_vectors/layout.rs"]
 mod built;
@@ -36,7 +36,7 @@ pub type Fault = Option<u64>;
 pub const FAULT_FROM: usize = 65;
 
 #[derive(Clone)]
-pub struct Session {
+pub struct Beside {
     pub pool: Lent,
     pub list: Vec<bool>,
     pub rust: Vector,
@@ -49,8 +49,8 @@ pub struct Session {
 
 type Held = Result<(), Difference>;
 
-impl Session {
-    /// Builds the window; where the pool has too few nodes it is refused, and there is no session.
+impl Beside {
+    /// Builds the window; where the pool has too few nodes it is refused, and there is nothing to run.
     pub fn new(
         nodes: usize,
         words: &[u64],
@@ -65,23 +65,23 @@ impl Session {
         let fits = need(length as usize) <= nodes;
         let wanted = if fits { [DONE, length] } else { [FULL, 0] };
         let list = list::bits_of(words, length);
-        let session =
-            Session { pool, rust: published::vector(words, length), list, nodes, served: 0, answers: vec![], fault };
-        session.same("build", wanted, got)?;
+        let beside =
+            Beside { pool, rust: published::vector(words, length), list, nodes, served: 0, answers: vec![], fault };
+        beside.same("build", wanted, got)?;
         if !fits {
             counts.refusal(BUILD, FULL);
-            session.same("the words after a refused build", true, session.pool == before)?;
+            beside.same("the words after a refused build", true, beside.pool == before)?;
             return Ok(None);
         }
-        session.same("the words of the built pool", true, session.pool.words() == built(nodes, &session.list))?;
-        session.look(counts)?;
-        Ok(Some(session))
+        beside.same("the words of the built pool", true, beside.pool.words() == built(nodes, &beside.list))?;
+        beside.look(counts)?;
+        Ok(Some(beside))
     }
 
     /// A window in a pool that was not built, and the published tree of the same nodes.
     pub fn of_pool(words: &[u64], parts: &[oracle::Part]) -> Self {
         let (list, rust) = (layout::marks(parts), Vector::of_parts(parts));
-        Session {
+        Beside {
             pool: Lent::new(words),
             list,
             rust,
