@@ -105,6 +105,29 @@ state-likely ws n {G} l go h =
     (refl, e, λ wf. h (let q = well-at (take (extent-of n) ws) n (counted-in ws n l e) wf in go (holding n (q .0)) (refl, q .1)))))
     (λ e. h (go nothing e))
 
+-- ---- what is held afterwards
+
+-- after a line a pool stands, or what was held is held
+or-kept : (n : ℕ) (o : Option Pool) (s : State) {P : Type 0} → ((m : ℕ) (p : Pool) → now-holding n o s ≡ holding m p → P) → (now-holding n o s ≡ s → P) → P
+unfolding now-holding
+or-kept n (some p) s a b = a n p refl
+or-kept n none s a b = b refl
+
+pub settled : (w : Option Wanted) (s : State) {P : Type 0} → ((m : ℕ) (p : Pool) → leaves w s ≡ holding m p → P) → (leaves w s ≡ s → P) → P
+unfolding leaves left-by
+settled none s a b = b refl
+settled (some (pooling n)) s a b =
+    by-test (sized n)
+    (λ e. or-kept n (Pool.build n []) s (λ m p f. a m p (rw (left-by, e) f)) (λ f. b (rw (left-by, e) f)))
+    (λ e. b (rw (left-by, e) refl))
+settled (some (loading len ws)) nothing a b = b refl
+settled (some (loading len ws)) (holding n p) a b = or-kept n _ (holding n p) a b
+settled (some (loading len ws)) (damaged n) a b = or-kept n _ (damaged n) a b
+settled (some (ordering o)) nothing a b = b refl
+settled (some (ordering o)) (holding n p) a b = a n _ refl
+settled (some (ordering o)) (damaged n) a b = b refl
+settled (some dumping) s a b = b refl
+
 -- ---- the words afterwards
 
 module _ (ws vs : List ℕ) (k : ℕ) (h : length vs ≡ k) where

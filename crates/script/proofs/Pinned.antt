@@ -13,35 +13,12 @@ use Rattle.model.specs.Pool as Pool
 use Rattle.model.specs.Pool.{Pool}
 use Rattle.model.proofs.Cases.{by-leb, by-ltb, by-test}
 use Rattle.window.proofs.Pinned.{Likely, one-layout, words-stable}
-use Rattle.grammar.specs.Lines.{Wanted, dumping, loading, ordering, pooling, wanted}
-use Rattle.script.specs.Prints.{State, damaged, holding, leaves, left-by, most-input, nothing, now-holding, sized}
+use Rattle.grammar.specs.Lines.{Wanted, wanted}
+use Rattle.script.specs.Prints.{State, holding, leaves, most-input}
 use Rattle.script.specs.Turns.{Holds, Played, Turned, extent-of, first-line}
 use Rattle.script.specs.declared.playing.Turn.{Turn}
-use Rattle.script.proofs.Effects.{state-likely}
+use Rattle.script.proofs.Effects.{settled, state-likely}
 use Rattle.script.proofs.playing.play.Reads as play
-
--- ---- what is held
-
--- after a line a pool stands, or what was held is held
-or-kept : (n : ℕ) (o : Option Pool) (s : State) {P : Type 0} → ((m : ℕ) (p : Pool) → now-holding n o s ≡ holding m p → P) → (now-holding n o s ≡ s → P) → P
-unfolding now-holding
-or-kept n (some p) s a b = a n p refl
-or-kept n none s a b = b refl
-
-settled : (w : Option Wanted) (s : State) {P : Type 0} → ((m : ℕ) (p : Pool) → leaves w s ≡ holding m p → P) → (leaves w s ≡ s → P) → P
-unfolding leaves left-by
-settled none s a b = b refl
-settled (some (pooling n)) s a b =
-    by-test (sized n)
-    (λ e. or-kept n (Pool.build n []) s (λ m p f. a m p (rw (left-by, e) f)) (λ f. b (rw (left-by, e) f)))
-    (λ e. b (rw (left-by, e) refl))
-settled (some (loading len ws)) nothing a b = b refl
-settled (some (loading len ws)) (holding n p) a b = or-kept n _ (holding n p) a b
-settled (some (loading len ws)) (damaged n) a b = or-kept n _ (damaged n) a b
-settled (some (ordering o)) nothing a b = b refl
-settled (some (ordering o)) (holding n p) a b = a n _ refl
-settled (some (ordering o)) (damaged n) a b = b refl
-settled (some dumping) s a b = b refl
 
 -- ---- one line
 

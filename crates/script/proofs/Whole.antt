@@ -4,15 +4,17 @@ use native.Mathlib.Omega.{arith}
 use mathlib.Core.Path.{_≡_, refl, sym, ap, ap₂, _∙_}
 use mathlib.Core.Bool.{true, false}
 use mathlib.Core.List.{List, [], _∷_, _++_, append-nil}
+use mathlib.Core.Option.{Option}
 use lib.Dec.{leb}
 use lib.ListN.{length, take, drop, getD, drop-of-length-le}
 use lib.Seq.{drop-cons, take-at}
 use Rattle.model.proofs.Cases.{by-leb}
-use Rattle.grammar.specs.Lines.{lines, wanted}
+use Rattle.grammar.specs.Lines.{Wanted, lines, wanted}
 use Rattle.grammar.specs.Text.{over}
 use Rattle.grammar.proofs.Putting.{over-first}
-use Rattle.script.specs.Prints.{State, all-say, leaves, most-input, nothing, prints, says, sized, too-long}
+use Rattle.script.specs.Prints.{State, Undamaged, all-leave, all-say, leaves, most-input, nothing, prints, says, sized, too-long}
 use Rattle.script.specs.Turns.{Holds, Plays, after-line, first-line}
+use Rattle.script.proofs.Effects.{settled}
 use Rattle.script.proofs.Ends.{lines-are, no-lines}
 
 -- the bytes that were written
@@ -70,3 +72,15 @@ plays-whole k input ws n printed none-yet p =
     by-leb (length input) most-input
     (λ e h. rw (prints, e) (plays-from k input 0 ws n printed nothing h none-yet p))
     (λ e h. rw (prints, e) (long-from k input ws n printed h p))
+
+-- ---- what a script holds
+
+-- a line does not damage a pool
+pub never-damaged : (w : Option Wanted) (s : State) → Undamaged s → Undamaged (leaves w s)
+never-damaged w s h = settled w s (λ m p e. rw e tt) (λ e. rw e h)
+
+-- so a script, which begins with nothing, never comes to words in which no pool stands
+pub script-undamaged : (ls : List (List ℕ)) (s : State) → Undamaged s → Undamaged (all-leave ls s)
+unfolding all-leave
+script-undamaged [] s h = h
+script-undamaged (l ∷ ls) s h = script-undamaged ls (leaves (wanted l) s) (never-damaged (wanted l) s h)

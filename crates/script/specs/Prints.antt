@@ -110,6 +110,16 @@ unfoldable pub all-say : List (List ℕ) → State → List ℕ
 all-say [] s = []
 all-say (l ∷ ls) s = says (wanted l) s ++ all-say ls (leaves (wanted l) s)
 
+-- what is held after some lines
+unfoldable pub all-leave : List (List ℕ) → State → State
+all-leave [] s = s
+all-leave (l ∷ ls) s = all-leave ls (leaves (wanted l) s)
+
+abbrev pub Undamaged : State → Type 0
+Undamaged nothing = Unit {0}
+Undamaged (holding n p) = Unit {0}
+Undamaged (damaged n) = ⊥
+
 abbrev pub most-input : ℕ
 most-input = 16384
 
