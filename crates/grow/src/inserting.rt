@@ -16,8 +16,8 @@ use bits::Leaf;
 use pool::Chain;
 use pool::Fork;
 use pool::Node;
+use pool::leaf_or_fork;
 use pool::next_free;
-use pool::node_at;
 use pool::set_fork;
 use pool::set_leaf;
 use tree::LEVELS;
@@ -111,7 +111,7 @@ fn insert_below(
     requires { ⌜ ((end : ℕ) × (t : Tree) × (free : List ℕ) × ToInsert (now nodes) n levels end (now head) length index t free) ⌝ }
     ensures { λ g. ⌜ ((end : ℕ) (t : Tree) (free : List ℕ) → ToInsert (now (nodes .entry)) n levels end (now (head .entry)) length index t free → After (now (nodes .entry)) (now (nodes .exit)) end (now (head .exit)) g t (Edit.insert index bit free t) free (rest (Edit.splits index t) free)) ⌝ }
 {
-    match node_at(nodes, n) {
+    match leaf_or_fork(nodes, n) {
         Node::Leaf(leaf) => settle(nodes, head, n, leaf.insert(index, bit), length + 1),
         Node::Fork(fork) => {
             let step = toward(fork, length, index);

@@ -14,6 +14,10 @@ unfoldable pub step : Watch → Bool → Watch
 step w true = record { struck = true; since = 0; longest = ended (w .struck) (w .since) (w .longest) }
 step w false = record { struck = w .struck; since = w .since + 1; longest = w .longest }
 
+-- the watch after so many quiet frames more
+abbrev pub later : ℕ → Watch → Watch
+later n w = record { struck = w .struck; since = w .since + n; longest = w .longest }
+
 -- the watch after some marks more
 unfoldable pub watched : Watch → List Bool → Watch
 watched w [] = w

@@ -1,16 +1,20 @@
 // One visit of the leaves, from the left; no list of places is made.
+ghost use mathlib.Core.Bool.{true};
 ghost use mathlib.Core.Path.{_≡_};
 ghost use Prim.Native.Nat.{_+_, _^_, _≤_, _<_};
 ghost use lib.ListN.{take};
 ghost use Rattle.model.specs.Marks as Marks;
 ghost use Rattle.model.specs.Tree.{Tree, marks, size};
+ghost use Rattle.model.specs.Word.{bits};
 ghost use Rattle.bits.specs.Leaf.{bits-of};
 ghost use Rattle.pool.specs.Layout.{Rooted};
-ghost use Rattle.quiet.specs.Watching.{step, watched};
+ghost use Rattle.quiet.specs.Watching.{later, step, watched};
 use bits::Leaf;
 use pool::Node;
 use pool::node_at;
 use tree::LEVELS;
+
+const WORD_BITS: u64 = 64;
 
 // How far the visit has come: whether a strike was met, how many quiet frames have passed since the last one, and the longest quiet between two
 // strikes so far.
@@ -20,23 +24,17 @@ struct Watch {
     longest: u64,
 }
 
-// After one mark more.
-fn after_mark(watch: Watch, bit: bool) -> Watch
-    requires { ⌜ watch .since + 1 < 2 ^ 64 ⌝ }
-    ensures { λ r. ⌜ r ≡ step watch bit ⌝ }
+// After so many quiet frames more and a strike.
+fn after_strike(watch: Watch, quiet: u64) -> Watch
+    requires { ⌜ watch .since + quiet < 2 ^ 64 ⌝ }
+    ensures { λ r. ⌜ r ≡ step (later quiet watch) true ⌝ }
 {
-    if !bit {
-        return Watch {
-            struck: watch.struck,
-            since: watch.since + 1,
-            longest: watch.longest,
-        };
-    }
-    if watch.struck && watch.longest < watch.since {
+    let since = watch.since + quiet;
+    if watch.struck && watch.longest < since {
         return Watch {
             struck: true,
             since: 0,
-            longest: watch.since,
+            longest: since,
         };
     }
     Watch {
@@ -46,18 +44,46 @@ fn after_mark(watch: Watch, bit: bool) -> Watch
     }
 }
 
+// After the lowest bits of a word, so many. The zeros below its lowest one are the quiet frames before the next strike; the ones from there on are
+// strikes with no quiet frame between them, so that all but the first change nothing.
+fn after_word(watch: Watch, word: u64, length: u64) -> Watch
+    requires { ⌜ (length ≤ 64) × (watch .since + length < 2 ^ 64) ⌝ }
+    ensures { λ r. ⌜ r ≡ watched watch (bits length word) ⌝ }
+{
+    let mut now = watch;
+    let mut rest = word;
+    let mut left = length;
+    loop {
+        let quiet = u64::trailing_zeros(rest) as u64;
+        if left <= quiet {
+            return Watch {
+                struck: now.struck,
+                since: now.since + left,
+                longest: now.longest,
+            };
+        }
+        now = after_strike(now, quiet);
+        let high = rest >> quiet;
+        left -= quiet;
+        let run = u64::trailing_zeros(!high) as u64;
+        if left <= run {
+            return now;
+        }
+        rest = high >> run;
+        left -= run;
+    }
+}
+
 // After the first marks of a leaf, so many.
 fn after_leaf(watch: Watch, leaf: Leaf, length: u64) -> Watch
     requires { ⌜ (length ≤ 128) × (watch .since + length < 2 ^ 64) ⌝ }
     ensures { λ r. ⌜ r ≡ watched watch (take length (bits-of leaf)) ⌝ }
 {
-    let mut now = watch;
-    let mut i = 0;
-    while i < length {
-        now = after_mark(now, leaf.bit_at(i));
-        i += 1;
+    if length < WORD_BITS {
+        return after_word(watch, leaf.low, length);
     }
-    now
+    let first = after_word(watch, leaf.low, WORD_BITS);
+    after_word(first, leaf.high, length - WORD_BITS)
 }
 
 // After the marks of the tree at n, which holds `length`.

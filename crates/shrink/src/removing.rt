@@ -7,7 +7,7 @@ use crate::mending::mend;
 use crate::mending::uncount;
 use pool::Chain;
 use pool::Node;
-use pool::node_at;
+use pool::leaf_or_fork;
 use pool::set_leaf;
 use tree::LEVELS;
 use tree::toward;
@@ -39,7 +39,7 @@ fn remove_below(
     requires { ⌜ ((t : Tree) × (free : List ℕ) × (end : ℕ) × ToRemove (now nodes) n levels end (now head) length index t free) ⌝ }
     ensures { λ g. ⌜ ((t : Tree) (free : List ℕ) (end : ℕ) → ToRemove (now (nodes .entry)) n levels end (now (head .entry)) length index t free → Gone (now (nodes .entry)) (now (nodes .exit)) end (now (head .exit)) g (now (bit .exit)) index t free) ⌝ }
 {
-    match node_at(nodes, n) {
+    match leaf_or_fork(nodes, n) {
         Node::Leaf(leaf) => {
             set_leaf(nodes, n, leaf.remove(index));
             *bit = leaf.bit_at(index);

@@ -8,7 +8,7 @@ use denote.Ref.{now}
 use lib.IntN.{pos}
 use Rattle.pool.specs.Node.{node-at}
 use Rattle.pool.specs.declared.node.Node.the-variants as Node
-use Rattle.pool.proofs.Standing.{not-free, not-broken}
+use Rattle.pool.proofs.Standing.{not-free, not-broken, rooted-node}
 use Rattle.turn.proofs.Differences.{alike, kept}
 use Rattle.grow.proofs.Descending.{Stepped, after-held, insert-fits, insert-at-leaf, inserted-at-leaf, insert-level, left-within, left-fits, stepped, insert-below-fork, stale-below, leveled-below, level-below}
 use borrow.Fn.Kinds.{In}
@@ -19,7 +19,7 @@ use Rattle.grow.proofs.inserting.+insert_below.Lts-insert_below as inse
 use Rattle.bits.proofs.leaf.Leaf.insert.Reads as insert-reads
 use Rattle.grow.proofs.inserting.counted.Reads as counted-reads
 use Rattle.grow.proofs.inserting.settle.Reads as settle-reads
-use Rattle.pool.proofs.node_at.Reads as node-at-reads
+use Rattle.pool.proofs.leaf_or_fork.Reads as leaf-or-fork-reads
 use Rattle.pool.proofs.set_fork.Reads as set-fork-reads
 use Rattle.tree.proofs.toward.Reads as toward-reads
 use Rattle.turn.proofs.child_changed.Reads as child-changed-reads
@@ -36,17 +36,17 @@ abbrev insert-below-below : ℕ → In 2 insert-below-kinds.ps
 insert-below-below t = and 2 insert-below-kinds.ps (falls 2 insert-below-kinds.ps _<_ μ-insert-below t) insert-below.Pre
 
 abbrev claims : ℕ → insert-below-lts.Claims
-claims t = (node-at-reads.Asked, node-at-reads.Learnt, insert-reads.Asked, insert-reads.Learnt, settle-reads.Asked, settle-reads.Learnt, toward-reads.Asked, toward-reads.Learnt, counted-reads.Asked, counted-reads.Learnt, set-fork-reads.Asked, set-fork-reads.Learnt, insert-below-below t, insert-below.Post, child-changed-reads.Asked, child-changed-reads.Learnt)
+claims t = (leaf-or-fork-reads.Asked, leaf-or-fork-reads.Learnt, insert-reads.Asked, insert-reads.Learnt, settle-reads.Asked, settle-reads.Learnt, toward-reads.Asked, toward-reads.Learnt, counted-reads.Asked, counted-reads.Learnt, set-fork-reads.Asked, set-fork-reads.Learnt, insert-below-below t, insert-below.Post, child-changed-reads.Asked, child-changed-reads.Learnt)
 
 -- ---- what is known at a place
 
 read-leaf : (t : ℕ) (c : insert-below-lts.After-leaf (claims t) (insert-below-at t) insert-below.Post)
     → let start = c .before .before .before .before .before in node-at (now (start .args .nodes)) (start .args .n) ≡ Node.Leaf (c .leaf .given .0 .0)
-read-leaf t c = sym (c .before .before .node-at .ensures) ∙ c .leaf .given .1
+read-leaf t c = sym (c .before .before .leaf-or-fork .ensures) ∙ c .leaf .given .1
 
 read-fork : (t : ℕ) (c : insert-below-lts.After-fork (claims t) (insert-below-at t) insert-below.Post)
     → let start = c .before .before .before .before .before in node-at (now (start .args .nodes)) (start .args .n) ≡ Node.Fork (c .fork .given .0 .0)
-read-fork t c = sym (c .before .before .node-at .ensures) ∙ c .fork .given .1
+read-fork t c = sym (c .before .before .leaf-or-fork .ensures) ∙ c .fork .given .1
 
 -- the step to the child, with the mark counted
 step : (t : ℕ) (c : insert-below-lts.After-set-fork (claims t) (insert-below-at t) insert-below.Post)
@@ -61,6 +61,9 @@ step t c =
     (c .set-fork .ensures)
 
 -- ---- needs
+
+leaf-or-fork-requires : (t : ℕ) → insert-below-lts.Need-leaf-or-fork-requires (claims t) (insert-below-at t) insert-below.Post
+leaf-or-fork-requires t c κs = let p = c .before .before .pre .1 in rooted-node (p .1) (p .3 .site .rooted)
 
 add-settle : (t : ℕ) → insert-below-lts.Need-add-settle (claims t) (insert-below-at t) insert-below.Post
 add-settle t c =
@@ -139,14 +142,14 @@ returns-3 t c = λ end u free q.
     (λ l r was s a. changed .ensures l r was s (kept (change .result) (record { sfits = change .ok }) a)))
 
 returns-4 : (t : ℕ) → insert-below-lts.Need-returns-4 (claims t) (insert-below-at t) insert-below.Post
-returns-4 t c = λ end u free q. not-free u _ (q .site .rooted) (sym (c .before .before .node-at .ensures) ∙ c .enum-told .given .1)
+returns-4 t c = λ end u free q. not-free u _ (q .site .rooted) (sym (c .before .before .leaf-or-fork .ensures) ∙ c .enum-told .given .1)
 
 returns-5 : (t : ℕ) → insert-below-lts.Need-returns-5 (claims t) (insert-below-at t) insert-below.Post
-returns-5 t c = λ end u free q. not-broken u (q .site .rooted) (sym (c .before .before .node-at .ensures) ∙ c .enum-told2 .given .1)
+returns-5 t c = λ end u free q. not-broken u (q .site .rooted) (sym (c .before .before .leaf-or-fork .ensures) ∙ c .enum-told2 .given .1)
 
 pub +insert-below-spec : {M : Type 1} → statement M
 +insert-below-spec =
     close μ-insert-below λ t. insert-below-lts.spec (claims t) (insert-below-at t) insert-below.Post
-    (λ c κs. search needs) (λ c. search needs) (λ c κs. search needs) (add-settle t) (settle-requires t) (λ c. search needs) (toward-requires t) (counted-requires t)
+    (leaf-or-fork-requires t) (λ c. search needs) (λ c κs. search needs) (add-settle t) (settle-requires t) (λ c. search needs) (toward-requires t) (counted-requires t)
     (λ c κs. search needs) (sub-insert-below t) (insert-below-requires t) (λ c. search needs) (returns t) (child-changed-requires t) (λ c. search needs) (λ c. search needs)
     (λ c. search needs) (returns-2 t) (λ c. search needs) (returns-3 t) (λ c. search needs) (returns-4 t) (λ c. search needs) (returns-5 t)

@@ -1,62 +1,36 @@
--- After i turns the watch is that after the first i marks. Assumes nothing.
-use Prim.Native.Nat.{ℕ, _≤_, _-_}
+-- The marks of the low word go by, and then those of the high one. Assumes nothing.
+use Prim.Native.Nat.{_-_}
 use native.Mathlib.Omega.{arith}
 use borrow.Author.Needs.{needs}
-use mathlib.Core.Path.{_≡_, refl, ap, _∙_}
-use lib.ListN.{take}
-use Rattle.bits.specs.Leaf.{bits-of}
+use mathlib.Core.Path.{sym, ap, _∙_}
+use Rattle.model.specs.Word.{bits}
+use Rattle.model.proofs.Words.{bits-length}
 use Rattle.quiet.specs.Watching.{watched}
-use Rattle.quiet.proofs.Passed.{part-since, part-next}
+use Rattle.quiet.specs.declared.longest.Watch.{Watch}
+use Rattle.quiet.proofs.Passed.{leaf-low, leaf-both, watched-append, watched-since}
 use Rattle.quiet.proofs.longest.after_leaf.Statement.{statement}
 use Rattle.quiet.proofs.longest.after_leaf.Tie as tie
 
-abbrev Inv-loop : tie.InvT-loop
-Inv-loop leaf length now₀ i₀ now i = (i ≤ length) × (now ≡ watched now₀ (take i (bits-of leaf)))
-
-abbrev μ-loop : tie.MeasureT-loop
-μ-loop leaf length now₀ i₀ now i = length - i
-
-loop-holds : tie.Need-loop-holds Inv-loop μ-loop
-unfolding watched
-loop-holds c = (omega arith, refl)
-
-bit-at-requires : tie.Need-bit-at-requires Inv-loop μ-loop
-bit-at-requires c κs = search needs
-
-after-mark-requires : tie.Need-after-mark-requires Inv-loop μ-loop
-after-mark-requires c κs =
-    let s = c .before .before .before in
-    omega (arith, s .pre, part-since (s .args .watch) (s .args .leaf) (c .before .before .loop .i) (c .before .before .loop .inv .1))
-
-add-i : tie.Need-add-i Inv-loop μ-loop
-add-i c = omega arith
-
-loop-less : tie.Need-loop-less Inv-loop μ-loop
-loop-less c = omega arith
-
-loop-again : tie.Need-loop-again Inv-loop μ-loop
-loop-again c =
-    let s = c .before .before .before .before in
-    let l = c .before .before .before .loop in
-    (omega arith, part-next (s .args .watch) (s .args .leaf) (l .i) (l .inv .1) (omega (arith, s .pre)) (c .before .bit-at .ensures) (c .after-mark .ensures))
-
-returns : tie.Need-returns Inv-loop μ-loop
+returns : tie.Need-returns
 returns c =
-    let s = c .before .before in
-    let l = c .before .loop in
-    let all : l .i ≡ s .args .length = omega arith in
-    l .inv .1 ∙ ap (λ (k : ℕ). watched (s .args .watch) (take k (bits-of (s .args .leaf)))) all
+    let a = c .before .before .args in
+    c .after-word .ensures ∙ ap (watched (a .watch)) (leaf-low (a .leaf) (a .length) (omega arith))
+
+after-word-requires-3 : tie.Need-after-word-requires-3
+after-word-requires-3 c κs =
+    let a = c .before .before .args in
+    let e = c .after-word2 .ensures in
+    (omega arith, rw e (omega (arith, watched-since (a .watch) (bits 64 (a .leaf .low)), bits-length 64 (a .leaf .low))))
+
+returns-2 : tie.Need-returns-2
+returns-2 c =
+    let a = c .before .before .before .args in
+    c .after-word3 .ensures
+    ∙ ap (λ (w : Watch). watched w (bits (a .length - 64) (a .leaf .high))) (c .before .after-word2 .ensures)
+    ∙ sym (watched-append (a .watch) (bits 64 (a .leaf .low)) (bits (a .length - 64) (a .leaf .high)))
+    ∙ ap (watched (a .watch)) (leaf-both (a .leaf) (a .length) (omega arith) (omega arith))
 
 pub after-leaf-spec : {M : Type 1} → statement M
 after-leaf-spec =
     tie.close
-    (tie.spec
-    Inv-loop
-    μ-loop
-    loop-holds
-    bit-at-requires
-    after-mark-requires
-    add-i
-    loop-less
-    loop-again
-    returns)
+    (tie.spec (λ c κs. search needs) returns (λ c κs. search needs) after-word-requires-3 returns-2)

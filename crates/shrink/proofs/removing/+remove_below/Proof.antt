@@ -8,7 +8,7 @@ use mir.Syntax.{w64}
 use mir.ValLaws.{toZ-ofZ}
 use Rattle.pool.specs.Node.{node-at}
 use Rattle.pool.specs.declared.node.Node.the-variants as Node
-use Rattle.pool.proofs.Standing.{not-free, not-broken}
+use Rattle.pool.proofs.Standing.{not-free, not-broken, rooted-node}
 use Rattle.turn.proofs.Differences.{alike}
 use Rattle.shrink.proofs.Descending.{gone-held, removed-at-leaf, remove-level, left-within, remove-below-fork, counted-below, stale-below, level-after, leveled-after, mend-below, mended-after}
 use Prim.Native.Nat.{ℕ, _<_}
@@ -19,7 +19,7 @@ use Rattle.shrink.proofs.removing.remove_below.Kinds as remove-below-ki
 use Rattle.shrink.proofs.removing.+remove_below.Lts-remove_below as remove-below-lts
 use Rattle.bits.proofs.leaf.Leaf.bit_at.Reads as bit-at-reads
 use Rattle.bits.proofs.leaf.Leaf.remove.Reads as remove-reads
-use Rattle.pool.proofs.node_at.Reads as node-at-reads
+use Rattle.pool.proofs.leaf_or_fork.Reads as leaf-or-fork-reads
 use Rattle.pool.proofs.set_leaf.Reads as set-leaf-reads
 use Rattle.shrink.proofs.mending.mend.Reads as mend-reads
 use Rattle.shrink.proofs.mending.uncount.Reads as uncount-reads
@@ -45,8 +45,8 @@ remove-below-below t =
 
 abbrev claims : ℕ → remove-below-lts.Claims
 claims t = (
-  node-at-reads.Asked,
-  node-at-reads.Learnt,
+  leaf-or-fork-reads.Asked,
+  leaf-or-fork-reads.Learnt,
   remove-reads.Asked,
   remove-reads.Learnt,
   set-leaf-reads.Asked,
@@ -68,7 +68,10 @@ claims t = (
 -- the fork that was read
 read : (t : ℕ) (c : remove-below-lts.After-fork (claims t) (remove-below-at t) remove-below.Post)
     → let a = c .before .before .before .before .before .args in node-at (now (a .nodes)) (a .n) ≡ Node.Fork (c .fork .given .0 .0)
-read t c = sym (c .before .before .node-at .ensures) ∙ c .fork .given .1
+read t c = sym (c .before .before .leaf-or-fork .ensures) ∙ c .fork .given .1
+
+leaf-or-fork-requires : (t : ℕ) → remove-below-lts.Need-leaf-or-fork-requires (claims t) (remove-below-at t) remove-below.Post
+leaf-or-fork-requires t c κs = let p = c .before .before .pre .1 in rooted-node (p .0) (p .3 .site .rooted)
 
 toward-requires : (t : ℕ) → remove-below-lts.Need-toward-requires (claims t) (remove-below-at t) remove-below.Post
 toward-requires t c κs =
@@ -166,7 +169,7 @@ returns-3 : (t : ℕ) → remove-below-lts.Need-returns-3 (claims t) (remove-bel
 returns-3 t c = λ u free end q.
     let set = c .before .before .before in
     let leaf = set .before .before .before .before in
-    removed-at-leaf (sym (leaf .before .before .node-at .ensures) ∙ leaf .leaf .given .1)
+    removed-at-leaf (sym (leaf .before .before .leaf-or-fork .ensures) ∙ leaf .leaf .given .1)
     (set .before .remove .ensures) (set .set-leaf .ensures) (c .bit-at .ensures) u free q
 
 returns-4 : (t : ℕ) → remove-below-lts.Need-returns-4 (claims t) (remove-below-at t) remove-below.Post
@@ -184,16 +187,16 @@ returns-4 t c = λ u free end q.
     (λ l r was k a. d .ensures l r was k (rw (toZ-ofZ w64 (b .result) (record { sfits = b .ok })) a)))
 
 returns-5 : (t : ℕ) → remove-below-lts.Need-returns-5 (claims t) (remove-below-at t) remove-below.Post
-returns-5 t c = λ u free end q. not-free u _ (q .site .rooted) (sym (c .before .before .node-at .ensures) ∙ c .enum-told .given .1)
+returns-5 t c = λ u free end q. not-free u _ (q .site .rooted) (sym (c .before .before .leaf-or-fork .ensures) ∙ c .enum-told .given .1)
 
 returns-6 : (t : ℕ) → remove-below-lts.Need-returns-6 (claims t) (remove-below-at t) remove-below.Post
-returns-6 t c = λ u free end q. not-broken u (q .site .rooted) (sym (c .before .before .node-at .ensures) ∙ c .enum-told2 .given .1)
+returns-6 t c = λ u free end q. not-broken u (q .site .rooted) (sym (c .before .before .leaf-or-fork .ensures) ∙ c .enum-told2 .given .1)
 
 pub +remove-below-spec : {M : Type 1} → statement M
 +remove-below-spec = close μ-remove-below λ t. remove-below-lts.spec (claims t)
     (remove-below-at t)
     remove-below.Post
-    (λ c κs. search needs)
+    (leaf-or-fork-requires t)
     (λ c. search needs)
     (λ c κs. search needs)
     (λ c κs. search needs)
