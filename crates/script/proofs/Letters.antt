@@ -1,10 +1,10 @@
 -- Texts that are put one behind the other make one text.
-use Prim.Native.Nat.{ℕ, zero, suc, _+_, _*_, _≤_, _<_}
+use Prim.Native.Nat.{ℕ, suc, _+_, _*_, _≤_, _<_}
 use native.Mathlib.Nat.{zero-add}
 use native.Mathlib.Omega.{arith}
 use mathlib.Core.Path.{_≡_, refl, sym, ap, ap₂, _∙_}
 use mathlib.Core.List.{List, [], _∷_, _++_, append-assoc, append-nil}
-use lib.ListN.{length, take, drop, getD, length-append}
+use lib.ListN.{length, take, getD, length-append}
 use lib.Seq.{length-take-le, take-suc}
 use Rattle.grammar.specs.Text.{decimal-text, hex-text, newline, over, space}
 use Rattle.grammar.proofs.Putting.{decimal-length, hex-length, over-behind, over-length, over-none}

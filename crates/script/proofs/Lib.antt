@@ -2,5 +2,6 @@ pub mod Bounds
 pub mod Effects
 pub mod Ends
 pub mod Letters
+pub mod Outcomes
 pub mod Pinned
 pub mod Whole

@@ -1,18 +1,16 @@
 -- A turn's contract determines where the next line begins, the pool's nodes, how many bytes were written, and each word and each byte: two results that it
 -- allows are equal. The law speaks of the contract as the check reads it off the source.
-use Prim.Native.Nat.{ℕ, zero, suc, _+_, _≤_, _<_}
+use Prim.Native.Nat.{ℕ, _+_, _≤_}
 use native.Mathlib.Omega.{arith}
-use mathlib.Core.Path.{_≡_, refl, sym, ap, ap₂, _∙_}
-use mathlib.Core.Bool.{Bool, true, false}
-use mathlib.Core.List.{List, [], _∷_, _++_}
-use mathlib.Core.Option.{Option, none, some}
+use mathlib.Core.Path.{_≡_, sym, ap, ap₂, _∙_}
+use mathlib.Core.List.{List, _++_}
+use mathlib.Core.Option.{Option}
 use denote.Ref.{now}
-use lib.Dec.{leb}
 use lib.ListN.{length, take, drop, length-drop, take-append-drop}
 use Rattle.model.specs.Pool as Pool
 use Rattle.model.specs.Pool.{Pool}
-use Rattle.model.proofs.Cases.{by-leb, by-ltb, by-test}
-use Rattle.window.proofs.Pinned.{Likely, one-layout, words-stable}
+use Rattle.model.proofs.Cases.{by-leb, by-ltb}
+use Rattle.window.proofs.Pinned.{Likely, number-stable, one-layout, words-stable}
 use Rattle.grammar.specs.Lines.{Wanted, wanted}
 use Rattle.script.specs.Prints.{State, holding, leaves, most-input}
 use Rattle.script.specs.Turns.{Holds, Played, Turned, extent-of, first-line}
@@ -51,9 +49,6 @@ line-once w s ws n out n₁ e₁ ws₁ out₁ n₂ e₂ ws₂ out₂ p q = (
 )
 
 -- ---- one turn
-
-number-stable : (m n : ℕ) → Likely (m ≡ n) → m ≡ n
-number-stable m n h = by-ltb m n (λ _ l. absurd (h (λ e. omega arith))) (λ _ l. by-ltb n m (λ _ k. absurd (h (λ e. omega arith))) (λ _ k. omega arith))
 
 -- the place, the nodes and the count, the words and the bytes
 pub record Alike (r q : Turn) (ws vs out bs : List ℕ) : Type 0 where

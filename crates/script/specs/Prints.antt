@@ -1,23 +1,21 @@
 -- What a script prints: for each line one, with a code and a value, by what the pool holds when the line is played.
-use Prim.Native.Nat.{ℕ, zero, suc, _*_, _≤_, _<_}
-use mathlib.Core.Path.{_≡_}
+use Prim.Native.Nat.{ℕ, _*_}
 use mathlib.Core.Bool.{Bool, true, false, _&&_}
 use mathlib.Core.List.{List, [], _∷_, _++_}
 use mathlib.Core.Option.{Option, none, some}
-use lib.Dec.{leb, ltb}
-use lib.ListN.{length, take, drop}
+use lib.Dec.{leb}
+use lib.ListN.{length, take}
 use Rattle.model.specs.Pool as Pool
 use Rattle.model.specs.Pool.{Pool}
 use Rattle.model.specs.Tree.{marks, size}
 use Rattle.model.specs.Word.{marks-of, words-of, words-for}
-use Rattle.pool.specs.Node.{node-words}
 use Rattle.window.specs.Answer.{code, value}
-use Rattle.window.specs.Layout.{Stands, WellFormed, most-nodes}
+use Rattle.window.specs.Layout.{most-nodes}
 use Rattle.window.specs.Orders.{after, answer}
 use Rattle.window.specs.declared.answer.Answer.{Answer}
 use Rattle.window.specs.declared.answer.Answer.the-variants.{Done, Full, Malformed, WrongSize, NotSound, TooLong}
 use Rattle.grammar.specs.Lines.{Wanted, dumping, lines, loading, ordering, pooling, wanted}
-use Rattle.grammar.specs.Text.{decimal-text, hex-text, newline, over, space}
+use Rattle.grammar.specs.Text.{decimal-text, hex-text, newline, space}
 
 -- ---- what is held
 

@@ -58,7 +58,7 @@ one-answer a b c v = sym (answer-is a) ∙ ap₂ answer-of c v ∙ answer-is b
 abbrev pub Likely : Type 0 → Type 0
 Likely P = (P → ⊥) → ⊥
 
-number-stable : (m n : ℕ) → Likely (m ≡ n) → m ≡ n
+pub number-stable : (m n : ℕ) → Likely (m ≡ n) → m ≡ n
 number-stable m n h =
     by-ltb m n (λ _ l. absurd (h (λ e. omega arith))) (λ _ l. by-ltb n m (λ _ k. absurd (h (λ e. omega arith))) (λ _ k. omega arith))
 

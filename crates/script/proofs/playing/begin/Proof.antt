@@ -1,9 +1,9 @@
 -- A pool of so many nodes is built empty, or the number is refused. Assumes nothing.
 use native.Mathlib.Omega.{arith}
 use borrow.Author.Needs.{needs}
-use mathlib.Core.Bool.{true, false}
+use mathlib.Core.Bool.{true}
 use mathlib.Core.List.{[], _++_}
-use mathlib.Core.Path.{_≡_, refl, sym, _∙_}
+use mathlib.Core.Path.{_≡_, sym, _∙_}
 use denote.Ref.{now}
 use lib.ListN.{drop}
 use lib.Seq.{length-take-le}
@@ -11,7 +11,8 @@ use Rattle.window.specs.declared.answer.Answer.the-variants.{Done, WrongSize}
 use Rattle.grammar.specs.Lines.{pooling}
 use Rattle.script.specs.Prints.{sized}
 use Rattle.script.specs.Turns.{extent-of}
-use Rattle.script.proofs.Effects.{extent-most, no-extent, played, some-extent, pool-did, pool-refused, pool-shows}
+use Rattle.script.proofs.Effects.{extent-most, no-extent, some-extent, pool-did, pool-refused}
+use Rattle.script.proofs.Outcomes.{played, pool-shows}
 use Rattle.script.proofs.playing.begin.Statement.{statement}
 use Rattle.script.proofs.playing.begin.Tie as tie
 

@@ -3,16 +3,15 @@ use Prim.Native.Nat.{ℕ, _+_, _*_, _≤_}
 use native.Mathlib.Nat.{zero-add}
 use native.Mathlib.Omega.{arith}
 use borrow.Author.Needs.{needs}
-use mathlib.Core.List.{[], _∷_}
-use mathlib.Core.Path.{_≡_, refl, sym, ap, ap₂, _∙_}
+use mathlib.Core.Path.{_≡_, sym, ap, _∙_}
 use denote.Ref.{now}
 use lib.ListN.{length, take}
 use lib.Seq.{length-take-le}
 use Rattle.window.specs.Answer.{code, value}
 use Rattle.grammar.specs.Lines.{dumping}
-use Rattle.script.specs.Prints.{State, words-text}
-use Rattle.script.specs.Turns.{Holds, extent-of}
-use Rattle.script.proofs.Effects.{Dumped, dump-did, extent-most, played, valued-few}
+use Rattle.script.specs.Prints.{words-text}
+use Rattle.script.proofs.Effects.{dump-did, extent-most}
+use Rattle.script.proofs.Outcomes.{played, valued-few}
 use Rattle.script.proofs.Letters.{Put, end-room, line-put, two-text, words-room, words-text-length}
 use Rattle.script.proofs.playing.dump.Statement.{statement}
 use Rattle.script.proofs.playing.dump.Tie as tie

@@ -1,7 +1,7 @@
 -- The words of a pool, by the two tests. Assumes nothing.
 use native.Mathlib.Omega.{arith}
 use borrow.Author.Needs.{needs}
-use mathlib.Core.Path.{_≡_, sym, _∙_}
+use mathlib.Core.Path.{sym}
 use Rattle.script.proofs.Effects.{bounds-sized, extent-none, extent-sized, unsized}
 use Rattle.script.proofs.playing.extent.Statement.{statement}
 use Rattle.script.proofs.playing.extent.Tie as tie

@@ -2,13 +2,14 @@
 use native.Mathlib.Omega.{arith}
 use borrow.Author.Needs.{needs}
 use mathlib.Core.List.{[], _++_}
-use mathlib.Core.Path.{_≡_, refl, sym, _∙_}
+use mathlib.Core.Path.{sym}
 use denote.Ref.{now}
 use lib.ListN.{drop, take}
 use lib.Seq.{length-take-le}
 use Rattle.grammar.specs.Lines.{loading}
 use Rattle.script.specs.Turns.{extent-of}
-use Rattle.script.proofs.Effects.{extent-most, load-did, load-shows, played}
+use Rattle.script.proofs.Effects.{extent-most, load-did}
+use Rattle.script.proofs.Outcomes.{load-shows, played}
 use Rattle.script.proofs.playing.load.Statement.{statement}
 use Rattle.script.proofs.playing.load.Tie as tie
 

@@ -2,14 +2,15 @@
 use native.Mathlib.Omega.{arith}
 use borrow.Author.Needs.{needs}
 use mathlib.Core.List.{_++_}
-use mathlib.Core.Path.{_≡_, refl, sym, _∙_}
+use mathlib.Core.Path.{refl, sym, _∙_}
 use denote.Ref.{now}
 use lib.ListN.{drop}
 use lib.Seq.{length-take-le}
 use Rattle.window.specs.Orders.{asks}
 use Rattle.script.specs.Prints.{State}
 use Rattle.script.specs.Turns.{Holds, extent-of}
-use Rattle.script.proofs.Effects.{Ordered, extent-most, order-did, order-played}
+use Rattle.script.proofs.Effects.{Ordered, extent-most, order-did}
+use Rattle.script.proofs.Outcomes.{order-played}
 use Rattle.script.proofs.playing.serve.Statement.{statement}
 use Rattle.script.proofs.playing.serve.Tie as tie
 

@@ -1,9 +1,8 @@
 -- What the line was read as is played. Assumes nothing.
 use native.Mathlib.Omega.{arith}
 use borrow.Author.Needs.{needs}
-use mathlib.Core.Path.{_≡_, sym}
 use denote.Ref.{now}
-use Rattle.script.proofs.Effects.{dump-read, load-read, malformed-played, malformed-read, order-read, pool-read}
+use Rattle.script.proofs.Outcomes.{dump-read, load-read, malformed-played, malformed-read, order-read, pool-read}
 use Rattle.script.proofs.playing.step.Statement.{statement}
 use Rattle.script.proofs.playing.step.Tie as tie
 
