@@ -17,7 +17,7 @@ use Rattle.model.proofs.Counting.{count-both}
 use Rattle.pool.specs.Node.{Put, nodes-in}
 use Rattle.pool.specs.declared.node.Node.the-variants as Node
 use Rattle.pool.proofs.Cells.{put-fork}
-use Rattle.build.specs.Waiting.{Forked, Kept, Level, Row, Small, Summed, Waiting, all-size, fork-over, item-over, nothing}
+use Rattle.build.specs.Waiting.{Forked, Kept, Level, Row, Small, Summed, Waiting, all-size, fork-over, item-over, nothing, places}
 use Rattle.build.specs.declared.building.Item.{Item}
 use Rattle.build.proofs.Joining.{fork-summed, kept-kept, put-kept, row-kept, summed-kept}
 use Rattle.build.proofs.OneRound.{round-halves, round-level, round-size}
@@ -114,7 +114,7 @@ no-pair {next = next} {ts = ts} p = (
 
 -- the last tree made, and all before it, wait for the next round
 ended : {before w : List ℕ} {next m : ℕ} {items : List Item} {ts : List Tree} (made : List Item) (done : List Tree) (last : Tree)
-    → Waiting before next items ts → 2 ≤ length ts → length made ≡ 512
+    → Waiting before next items ts → 2 ≤ length ts → length made ≡ places
     → reverseAux done (last ∷ []) ≡ round next ts → Made w m made done → Summed w m last (getD made (length done) nothing) → Waiting w m made (round next ts)
 ended {w = w} {next = next} {m = m} {ts = ts} made done last b some room e new s =
     let half = round-halves next ts some in
@@ -209,7 +209,7 @@ module _ {w : List ℕ} {next : ℕ} {items made : List Item} {i : ℕ} {ts : Li
 
   -- two trees left: the last pair is the last fork
   pub even-ends : {before w′ : List ℕ} {x : Item} (done rest : List Tree) → Waiting before next items ts → Part w next items made i ts done rest → i * 2 + 2 ≡ length ts
-      → i < length made → length made ≡ 512 → next + i < nodes-in w → Forked w w′ (next + i) (left items i) (right items i) x
+      → i < length made → length made ≡ places → next + i < nodes-in w → Forked w w′ (next + i) (left items i) (right items i) x
       → Waiting w′ (suc (next + i)) (set made i x) (round next ts)
   unfolding round
   even-ends done [] b p two room all fits f = absurd (omega arith)
@@ -225,7 +225,7 @@ module _ {w : List ℕ} {next : ℕ} {items made : List Item} {i : ℕ} {ts : Li
 
   -- three left: the odd tree joins the last pair
   pub odd-ends : {before w′ w″ : List ℕ} {x y : Item} (done rest : List Tree) → Waiting before next items ts → Part w next items made i ts done rest → i * 2 + 3 ≡ length ts
-      → i < length made → length made ≡ 512 → suc (next + i) < nodes-in w → Forked w w′ (next + i) (left items i) (right items i) x
+      → i < length made → length made ≡ places → suc (next + i) < nodes-in w → Forked w w′ (next + i) (left items i) (right items i) x
       → Forked w′ w″ (suc (next + i)) (odd items i) x y → Waiting w″ (suc (suc (next + i))) (set made i y) (round next ts)
   unfolding round
   odd-ends done [] b p three room all fits f g = absurd (omega arith)

@@ -13,7 +13,7 @@ use Rattle.bits.specs.Leaf.{leaf-of}
 use Rattle.pool.specs.Node.{Put, leaf-cell, nodes-in, put}
 use Rattle.pool.specs.declared.node.Node.the-variants as Node
 use Rattle.pool.proofs.Cells.{put-leaf}
-use Rattle.build.specs.Waiting.{Row, Waiting, all-size, leaf-item}
+use Rattle.build.specs.Waiting.{Row, Waiting, all-size, leaf-item, places}
 use Rattle.build.specs.declared.building.Item.{Item}
 use Rattle.build.proofs.Joining.{leaf-summed, put-kept, row-front, row-kept}
 use Rattle.build.proofs.OneRound.{leaves-level, leaves-size}
@@ -54,7 +54,8 @@ one-begun {w} {xs} {leaves} {items} {i} w′ at x b place h room fits e f =
     }
 
 -- all leaves put: they wait for the first round
-pub all-begun : {w : List ℕ} {xs : List Bool} {leaves : ℕ} {items : List Item} {i : ℕ} → Begun w xs leaves items i → i ≡ leaves → leaves ≤ 512 → length items ≡ 512
+pub all-begun : {w : List ℕ} {xs : List Bool} {leaves : ℕ} {items : List Item} {i : ℕ} → Begun w xs leaves items i → i ≡ leaves → leaves ≤ places
+    → length items ≡ places
     → Waiting w leaves items (reverse (built-leaves 0 leaves xs))
 unfolding built-leaves all-size
 all-begun {w} {xs} {leaves} {items} {i} b e few room =

@@ -4,15 +4,12 @@ use mathlib.Core.Path.{_≡_}
 use mathlib.Core.List.{List}
 use lib.ListN.{length}
 use Rattle.model.specs.Build.{leaf-built, leaf-count}
+use Rattle.model.specs.Limits.{most-nodes}
 use Rattle.model.specs.Pool.{Pool}
 use Rattle.model.specs.Tree.{top}
 use Rattle.pool.specs.Node.{node-words, nodes-in}
 use Rattle.pool.specs.Layout.{Laid, first-of}
 use Rattle.build.specs.declared.building.Built.{Built}
-
--- the most nodes that a pool has
-abbrev pub most-nodes : ℕ
-most-nodes = 1023
 
 -- so many marks of these words can be built into these node words: whole nodes, not too many of them, and enough
 pub record Room (w words : List ℕ) (total : ℕ) : Type 0 where

@@ -5,6 +5,7 @@ use mathlib.Core.Bool.{Bool, true}
 use mathlib.Core.List.{List, [], _∷_, List·Memᴰ, reverse}
 use lib.ListN.{length, take, drop, getD}
 use Rattle.model.specs.Build.{built-leaves, leaf-built, leaf-count, round, rounds}
+use Rattle.model.specs.Limits.{most-leaves, most-nodes}
 use Rattle.model.specs.Marks.{count}
 use Rattle.model.specs.Pool.{numbers-from}
 use Rattle.model.specs.Tree.{Tree, top, marks, size, height, numbers}
@@ -14,11 +15,10 @@ use Rattle.pool.specs.Layout.{Chained, Holds}
 use Rattle.pool.specs.declared.chain.Chain.{Chain}
 use Rattle.pool.specs.declared.node.Fork.{Fork}
 use Rattle.build.specs.declared.building.Item.{Item}
-use Rattle.build.specs.Built.{most-nodes}
 
--- the most leaves that a tree has
-abbrev pub most-leaves : ℕ
-most-leaves = 512
+-- how many trees the builder can remember: as many as the leaves of the largest pool
+abbrev pub places : ℕ
+places = most-leaves most-nodes
 
 -- ---- one leaf
 
@@ -85,7 +85,7 @@ all-size (t ∷ ts) = size t + all-size ts
 
 -- the trees that wait for a round, the rightmost first, their numbers below n: level, and few enough
 pub record Waiting (w : List ℕ) (n : ℕ) (xs : List Item) (ts : List Tree) : Type 0 where
-  pub room : length xs ≡ most-leaves
+  pub room : length xs ≡ places
   pub row : Row w n xs 0 ts
   pub high : ℕ
   pub level : Level high ts
@@ -107,7 +107,7 @@ Kept w w′ n = (k : ℕ) → k < n → node-at w′ k ≡ node-at w k
 -- so many marks of some words fit so many leaves, and there is a node for each leaf
 pub record Leafy (w words : List ℕ) (total leaves : ℕ) : Type 0 where
   pub all : leaves ≡ leaf-count total
-  pub most : leaves ≤ most-leaves
+  pub most : leaves ≤ places
   pub enough : leaves ≤ nodes-in w
   pub given : total ≤ leaf-built * length words
 
@@ -118,7 +118,7 @@ pub record Planted (w w′ : List ℕ) (xs : List Bool) (leaves : ℕ) (items : 
 
 -- before a round: so many trees wait, and from `next` on there are nodes for the forks of all rounds
 pub record Ready (w : List ℕ) (items : List Item) (trees next : ℕ) : Type 0 where
-  pub most : trees ≤ most-leaves
+  pub most : trees ≤ places
   pub enough : next + trees ≤ nodes-in w + 1
   pub few : nodes-in w ≤ most-nodes
   pub these : List Tree

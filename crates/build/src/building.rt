@@ -22,7 +22,7 @@ ghost use Rattle.build.specs.Waiting.{Forked, Freeing, Grown, Leafy, Pla
 // How many marks a built leaf takes, the last one perhaps fewer.
 const LEAF_BUILT: u64 = 64;
 
-// The most leaves that a tree has.
+// How many trees wait at most: the leaves that 1,023 nodes have room for.
 const MOST_LEAVES: usize = 512;
 
 // A tree that waits to be joined: its top number, its marks, its strikes and its height.

@@ -8,6 +8,7 @@ use mathlib.Core.Bool.{Bool}
 use mathlib.Core.List.{List}
 use mathlib.Core.Option.{some}
 use lib.ListN.{length}
+use Rattle.model.specs.Limits.{least-full}
 use Rattle.model.specs.Pool as Pool
 use Rattle.model.specs.Pool.{Pool}
 use Rattle.model.specs.Sound.{Sound}
@@ -17,7 +18,6 @@ use Rattle.model.proofs.Floor.{floor, floor-window, means-full}
 use Rattle.model.proofs.PoolSound.{build-sound}
 use Rattle.window.specs.Orders.{Asked, answer, after-all}
 use Rattle.window.specs.declared.answer.Answer.the-variants.{Full}
-use Rattle.demands.specs.Promises.{least-full}
 use Rattle.demands.proofs.OrderByOrder.{after-all-sound}
 use Rattle.demands.proofs.Refusals.{full-only-if}
 

@@ -12,7 +12,7 @@ use Rattle.model.specs.Pool as Pool
 use Rattle.model.specs.Pool.{Pool}
 use Rattle.model.specs.Sound.{Sound}
 use Rattle.model.specs.Tree.{marks}
-use Rattle.model.proofs.Floor.{most-leaves, floor-for}
+use Rattle.model.specs.Limits.{least-full}
 use Rattle.window.specs.Answer.{code}
 use Rattle.window.specs.Calls.{BuildsTo, Valued, Ran}
 use Rattle.window.specs.Orders.{Asked, inserting, removing, answer, after, answers, after-all, list-answers, list-after-all}
@@ -72,10 +72,6 @@ abbrev pub SizesAgree : Type 0
 SizesAgree =
     (n m : ℕ) (xs : List Bool) (p q : Pool) (os : List Asked) → n ≤ m → Pool.build n xs ≡ some p → Pool.build m xs ≡ some q
     → AgreeOrFull (answers os p) (answers os q)
-
--- the fewest marks at which a pool of n nodes can answer Full: 127 where one leaf is all it has room for, else 33 for each leaf, and 62
-abbrev pub least-full : ℕ → ℕ
-least-full n = floor-for (most-leaves n)
 
 -- any build, any orders after it, in any number of runs
 abbrev pub NoFullBelowTheFloor : Type 0

@@ -5,6 +5,7 @@ use mathlib.Core.Bool.{Bool, true, false}
 use mathlib.Core.List.{List, _∷_, _++_, List·Memᴰ}
 use lib.ListN.{length, drop}
 use Rattle.model.specs.Edit.{leaf-split, splits}
+use Rattle.model.specs.Limits.{levels}
 use Rattle.model.specs.Pool.{Pool}
 use Rattle.model.specs.Sound.{Distinct}
 use Rattle.model.specs.Tree.{Tree, size, numbers}
@@ -30,7 +31,7 @@ with-mark f false bit = f
 
 -- a pool's tree of so many marks, so many free nodes, and a place of the tree
 pub record ToAsk (w : List ℕ) (root total count index : ℕ) (p : Pool) : Type 0 where
-  pub rooted : Rooted w root 12 (p .tree)
+  pub rooted : Rooted w root levels (p .tree)
   pub total-is : size (p .tree) ≡ total
   pub within : index ≤ total
   pub count-is : length (p .free) ≡ count
@@ -56,7 +57,7 @@ pub record ToInsert (w : List ℕ) (n levels end head total index : ℕ) (t : Tr
 
 -- the same of a pool's tree and chain; the chain's end is no free number
 pub record ToInsertInto (w : List ℕ) (root end : ℕ) (chain : Chain) (total index : ℕ) (t : Tree) (free : List ℕ) : Type 0 where
-  pub place : ToInsert w root 12 end (chain .first) total index t free
+  pub place : ToInsert w root levels end (chain .first) total index t free
   pub count-is : length free ≡ chain .count
   pub past : List·Memᴰ end free → ⊥
 

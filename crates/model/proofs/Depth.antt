@@ -8,6 +8,7 @@ use mathlib.Core.List.{List, _++_}
 use mathlib.Core.Logic.{⊎-elim}
 use lib.ListN.{length, length-append}
 use lib.Pow.{pow-pos}
+use Rattle.model.specs.Limits.{most-nodes, levels}
 use Rattle.model.specs.Pool.{Pool, numbers-from}
 use Rattle.model.specs.Sound.{Balanced, Sized, Sound, all-numbers}
 use Rattle.model.specs.Tree.{Tree, leaf, fork, size, height, numbers, leaf-total, fewest-leaves}
@@ -54,13 +55,6 @@ pub node-total : (t : Tree) → suc (length (numbers t)) ≡ 2 * leaf-total t
 unfolding numbers leaf-total
 node-total (leaf n xs) = refl
 node-total (fork n l r) = omega (arith, node-total l, node-total r, length-append (numbers l) (numbers r))
-
--- the greatest number of nodes that a pool has, and the levels that they have room for
-abbrev pub most-nodes : ℕ
-most-nodes = 1023
-
-abbrev pub levels : ℕ
-levels = 12
 
 -- no leaf of a sound pool is more than 12 levels down
 pub depth : (n : ℕ) (p : Pool) → n ≤ most-nodes → Sound n p → height (p .tree) ≤ levels

@@ -8,6 +8,7 @@ use mathlib.Core.List.{List, _++_}
 use lib.Dec.{leb, ltb}
 use lib.ListN.{length, length-append}
 use Rattle.model.specs.Edit.{leaf-at, splits, leaf-split}
+use Rattle.model.specs.Limits.{most-leaves, most-nodes, floor-for, least-full}
 use Rattle.model.specs.Pool.{Pool, full, numbers-from}
 use Rattle.model.specs.Sound.{Sized, Sound, Whole, leaf-least, leaf-most, all-numbers}
 use Rattle.model.specs.Tree.{Tree, leaf, fork, size, leaf-total, numbers}
@@ -43,23 +44,13 @@ full-size least i (fork n l r) few s =
 
 -- ---- a whole pool
 
--- how many leaves a tree of n nodes has, where fewer than two of the nodes are free
-abbrev pub most-leaves : ℕ → ℕ
-most-leaves n = (n + 1) / 2
-
--- the fewest marks at which an insert finds no room, by the leaves
-unfoldable pub floor-for : ℕ → ℕ
-floor-for zero = 0
-floor-for (suc zero) = 127
-floor-for (suc (suc leaves)) = 33 * suc (suc leaves) + 62
-
 -- tree nodes and free nodes are as many as the pool has
 pub sound-nodes : (n : ℕ) (p : Pool) → Sound n p → length (numbers (p .tree)) + length (p .free) ≡ n
 unfolding all-numbers
 sound-nodes n p s =
     sym (length-append (numbers (p .tree)) (p .free)) ∙ sym (rearranged-length (numbers-from 0 n) (all-numbers p) (s .each)) ∙ numbers-from-length 0 n
 
--- how many leaves that makes
+-- fewer than two of the nodes are free: the leaves are as many as the nodes allow
 sound-leaves : (n : ℕ) (p : Pool) → Sound n p → length (p .free) < 2 → leaf-total (p .tree) ≡ most-leaves n
 sound-leaves n p s few = omega (arith, sound-nodes n p s, node-total (p .tree))
 
@@ -88,7 +79,7 @@ several : (leaves s : ℕ) → 2 ≤ leaves → 33 * leaves + 62 ≤ s → floor
 unfolding floor-for
 several zero s h k = absurd (omega arith)
 several (suc zero) s h k = absurd (omega arith)
-several (suc (suc leaves)) s h k = k
+several (suc (suc leaves)) s h k = omega arith
 
 leaves-some : (t : Tree) → 1 ≤ leaf-total t
 unfolding leaf-total
@@ -107,12 +98,12 @@ whole-sized (leaf n xs) w = w
 whole-sized (fork n l r) w = sized-weaken 0 1 (fork n l r) (omega arith) w
 
 -- an insert finds no room only in a pool that holds so many marks
-pub floor : (n i : ℕ) (p : Pool) → Sound n p → full i p ≡ true → floor-for (most-leaves n) ≤ size (p .tree)
+pub floor : (n i : ℕ) (p : Pool) → Sound n p → full i p ≡ true → least-full n ≤ size (p .tree)
 floor n i p s e =
     let m = full-means 0 i p (whole-sized (p .tree) (s .whole)) e in
     floor-tree i (most-leaves n) (p .tree) (s .whole) (m .0) (sound-leaves n p s (m .1))
 
 -- for a window's pool
-pub floor-window : floor-for (most-leaves 1023) ≡ 16958
+pub floor-window : least-full most-nodes ≡ 16958
 unfolding floor-for
 floor-window = refl

@@ -6,4 +6,5 @@ pub mod Build
 pub mod Edit
 pub mod Pool
 pub mod Sound
+pub mod Limits
 pub mod Reference

@@ -3,6 +3,7 @@ ghost use mathlib.Core.Bool.{true};
 ghost use mathlib.Core.Path.{_≡_};
 ghost use Prim.Native.Nat.{_+_, _^_, _≤_, _<_};
 ghost use lib.ListN.{take};
+ghost use Rattle.model.specs.Limits.{levels};
 ghost use Rattle.model.specs.Marks as Marks;
 ghost use Rattle.model.specs.Tree.{Tree, marks, size};
 ghost use Rattle.model.specs.Word.{bits};
@@ -106,8 +107,9 @@ fn after_tree(nodes: &[u64], n: u64, length: u64, watch: Watch, levels: u64) -> 
 
 // The longest quiet between two neighbouring strikes of the tree at `root`, which holds `length` marks; 0 with fewer than two strikes.
 pub fn longest_quiet(nodes: &[u64], root: u64, length: u64) -> u64
-    requires { ⌜ ((t : Tree) × Rooted (now nodes) root 12 t × (size t ≡ length)) ⌝ }
-    ensures { λ r. ⌜ ((t : Tree) → Rooted (now (nodes .entry)) root 12 t → size t ≡ length → r ≡ Marks.longest-quiet (marks t)) ⌝ }
+    requires { ⌜ ((t : Tree) × Rooted (now nodes) root levels t × (size t ≡ length)) ⌝ }
+    ensures { λ r. ⌜ ((t : Tree) → Rooted (now (nodes .entry)) root levels t → size t ≡ length
+        → r ≡ Marks.longest-quiet (marks t)) ⌝ }
 {
     let start = Watch {
         struck: false,

@@ -8,6 +8,7 @@ use mathlib.Core.Option.{Option, none, some}
 use lib.ListN.{length, take, drop, getD, take-append-drop}
 use lib.Seq.{take-at, drop-at, length-take-le}
 use Rattle.model.specs.Build.{build, leaf-count}
+use Rattle.model.specs.Limits.{most-nodes}
 use Rattle.model.specs.Pool as Pool
 use Rattle.model.specs.Pool.{Pool, nodes-for}
 use Rattle.model.specs.Sound.{Sized, Sound}
@@ -39,18 +40,18 @@ pub record Did (w : Wanted) (s : State) (ws : List ℕ) (n : ℕ) (r : Answer) (
 
 -- ---- sizes
 
-pub sized-bounds : (n : ℕ) → sized n ≡ true → (1 ≤ n) × (n ≤ 1023)
+pub sized-bounds : (n : ℕ) → sized n ≡ true → (1 ≤ n) × (n ≤ most-nodes)
 unfolding sized
 sized-bounds n e =
     by-leb 1 n
-    (λ a h. by-leb n 1023 (λ b g. (h, g)) (λ b g. never e (rw (a, b) refl)))
+    (λ a h. by-leb n most-nodes (λ b g. (h, g)) (λ b g. never e (rw (a, b) refl)))
     (λ a h. never e (rw a refl))
 
-pub bounds-sized : (n : ℕ) → 1 ≤ n → n ≤ 1023 → sized n ≡ true
+pub bounds-sized : (n : ℕ) → 1 ≤ n → n ≤ most-nodes → sized n ≡ true
 unfolding sized
-bounds-sized n l m = by-leb 1 n (λ a h. by-leb n 1023 (λ b g. rw (a, b) refl) (λ b g. absurd (omega arith))) (λ a h. absurd (omega arith))
+bounds-sized n l m = by-leb 1 n (λ a h. by-leb n most-nodes (λ b g. rw (a, b) refl) (λ b g. absurd (omega arith))) (λ a h. absurd (omega arith))
 
-pub unsized : (n : ℕ) → ((1 ≤ n) × (n ≤ 1023) → ⊥) → sized n ≡ false
+pub unsized : (n : ℕ) → ((1 ≤ n) × (n ≤ most-nodes) → ⊥) → sized n ≡ false
 unsized n out = by-test (sized n) (λ e. absurd (out (sized-bounds n e))) (λ e. e)
 
 pub extent-sized : (n : ℕ) → sized n ≡ true → extent-of n ≡ suc n * 6
@@ -283,7 +284,7 @@ most-size least (leaf n xs) z = omega (arith, z .1)
 most-size least (fork n l r) z = omega (arith, most-size 33 l (z .0), most-size least r (z .1))
 
 -- so the marks of a pool of 1,023 nodes fit in 1,016 words
-pub dump-words : (n : ℕ) (p : Pool) → n ≤ 1023 → Sound n p → words-for (size (p .tree)) ≤ 1016
+pub dump-words : (n : ℕ) (p : Pool) → n ≤ most-nodes → Sound n p → words-for (size (p .tree)) ≤ 1016
 unfolding words-for
 dump-words n p h s =
     let a = most-size 0 (p .tree) (whole-sized (p .tree) (s .whole)) in

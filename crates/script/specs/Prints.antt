@@ -10,7 +10,7 @@ use Rattle.model.specs.Pool.{Pool}
 use Rattle.model.specs.Tree.{marks, size}
 use Rattle.model.specs.Word.{marks-of, words-of, words-for}
 use Rattle.window.specs.Answer.{code, value}
-use Rattle.window.specs.Layout.{most-nodes}
+use Rattle.model.specs.Limits.{most-nodes}
 use Rattle.window.specs.Orders.{after, answer}
 use Rattle.window.specs.declared.answer.Answer.{Answer}
 use Rattle.window.specs.declared.answer.Answer.the-variants.{Done, Full, Malformed, WrongSize, NotSound, TooLong}

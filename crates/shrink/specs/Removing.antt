@@ -6,6 +6,7 @@ use mathlib.Core.List.{List, _++_, List·Memᴰ}
 use lib.IntN.{ℤ}
 use lib.ListN as ListN
 use Rattle.model.specs.Edit.{remove}
+use Rattle.model.specs.Limits.{levels}
 use Rattle.model.specs.Marks.{access}
 use Rattle.model.specs.Tree.{Tree, marks, size, numbers}
 use Rattle.pool.specs.Layout.{Chained, Edited, first-of}
@@ -26,7 +27,7 @@ pub record Gone (w w′ : List ℕ) (end head : ℕ) (by : ℤ) (bit : Bool) (in
 
 -- the same of a whole pool: the chain is told by its first number and its length, and its end is no number of the tree
 pub record ToTake (w : List ℕ) (root length : ℕ) (chain : Chain) (index end : ℕ) (t : Tree) (free : List ℕ) : Type 0 where
-  pub below : ToRemove w root 12 end (chain .first) length index t free
+  pub below : ToRemove w root levels end (chain .first) length index t free
   pub count : ListN.length free ≡ chain .count
   pub past : List·Memᴰ end (numbers t) → ⊥
   pub fits : chain .count + 2 < 2 ^ 64

@@ -10,7 +10,7 @@ use Rattle.model.specs.Sound.{leaf-least}
 use Rattle.model.specs.Tree as Tree
 use Rattle.model.specs.Tree.{Tree, top, marks, size, height, numbers}
 use Rattle.model.proofs.Counting.{count-append}
-use Rattle.model.proofs.Depth.{levels as deepest}
+use Rattle.model.specs.Limits.{levels as deepest}
 use Rattle.model.proofs.Paths.{count-size}
 use Rattle.bits.specs.Leaf.{leaf-of}
 use Rattle.bits.specs.declared.leaf.Leaf.{Leaf}

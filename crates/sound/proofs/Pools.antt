@@ -13,7 +13,8 @@ use Rattle.model.specs.Sound.{Sized, Whole, all-numbers}
 use Rattle.model.specs.Tree as Tree
 use Rattle.model.specs.Tree.{Tree, top, numbers}
 use Rattle.model.specs.Word.{odd}
-use Rattle.model.proofs.Depth.{depth, levels, most-nodes}
+use Rattle.model.specs.Limits.{levels, most-nodes}
+use Rattle.model.proofs.Depth.{depth}
 use Rattle.model.proofs.NumbersFrom.{numbers-from-bounds, numbers-from-distinct, numbers-from-length}
 use Rattle.model.proofs.Rearranged.{rearranged-distinct, rearranged-length, rearranged-member, rearranged-sym}
 use Rattle.bits.specs.Leaf.{leaf-of}

@@ -9,7 +9,7 @@ use pool::node_count;
 ghost use mathlib.Core.Path.{_≡_};
 ghost use Prim.Native.Nat.{_*_, _≤_};
 ghost use lib.ListN.{length as size};
-ghost use Rattle.model.proofs.Depth.{most-nodes};
+ghost use Rattle.model.specs.Limits.{most-nodes};
 ghost use Rattle.pool.specs.Node.{node-words, nodes-in};
 ghost use Rattle.sound.specs.Judged.{Judged};
 

@@ -9,7 +9,7 @@ ghost use mathlib.Core.Path.{_≡_};
 ghost use Prim.Native.Nat.{_+_, _<_, _≤_, _^_};
 ghost use lib.ListN.{length};
 ghost use Rattle.pool.specs.Node.{node-at};
-ghost use Rattle.model.proofs.Depth.{levels as deepest};
+ghost use Rattle.model.specs.Limits.{levels as deepest};
 ghost use Rattle.sound.specs.Answer.{Answered, Says};
 ghost use Rattle.sound.specs.Met.{met-words};
 ghost use Rattle.sound.specs.Part.{Agrees, Filled, Visited, even-balance, filled, higher, least-of, over};

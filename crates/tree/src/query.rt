@@ -4,6 +4,7 @@ ghost use mathlib.Core.Path.{_≡_};
 ghost use Prim.Native.Nat.{_≤_, _<_};
 ghost use lib.ListN as ListN;
 ghost use Rattle.model.specs.Edit.{leaf-at};
+ghost use Rattle.model.specs.Limits.{levels};
 ghost use Rattle.model.specs.Marks as Marks;
 ghost use Rattle.model.specs.Tree.{Tree, marks, size};
 ghost use Rattle.bits.specs.Leaf.{bits-of};
@@ -37,8 +38,9 @@ pub enum Found {
 
 // The leaf that a place leads to: left where it is below the left child's total, else right.
 fn reach(nodes: &[u64], root: u64, length: u64, place: u64) -> Spot
-    requires { ⌜ ((t : Tree) × Rooted (now nodes) root 12 t × (size t ≡ length) × (place ≤ length)) ⌝ }
-    ensures { λ r. ⌜ ((t : Tree) → Rooted (now (nodes .entry)) root 12 t → size t ≡ length → place ≤ length → Spotted t place r) ⌝ }
+    requires { ⌜ ((t : Tree) × Rooted (now nodes) root levels t × (size t ≡ length) × (place ≤ length)) ⌝ }
+    ensures { λ r. ⌜ ((t : Tree) → Rooted (now (nodes .entry)) root levels t → size t ≡ length → place ≤ length
+        → Spotted t place r) ⌝ }
 {
     let mut n = root;
     let mut len = length;
@@ -82,8 +84,9 @@ fn nowhere() -> Spot {
 
 // How many marks the leaf holds that a place leads to.
 pub fn leaf_size(nodes: &[u64], root: u64, length: u64, place: u64) -> u64
-    requires { ⌜ ((t : Tree) × Rooted (now nodes) root 12 t × (size t ≡ length) × (place ≤ length)) ⌝ }
-    ensures { λ r. ⌜ ((t : Tree) → Rooted (now (nodes .entry)) root 12 t → size t ≡ length → place ≤ length → r ≡ ListN.length (leaf-at place t)) ⌝ }
+    requires { ⌜ ((t : Tree) × Rooted (now nodes) root levels t × (size t ≡ length) × (place ≤ length)) ⌝ }
+    ensures { λ r. ⌜ ((t : Tree) → Rooted (now (nodes .entry)) root levels t → size t ≡ length → place ≤ length
+        → r ≡ ListN.length (leaf-at place t)) ⌝ }
 {
     let spot = reach(nodes, root, length, place);
     spot.length
@@ -91,8 +94,9 @@ pub fn leaf_size(nodes: &[u64], root: u64, length: u64, place: u64) -> u64
 
 // The mark at a place.
 pub fn access(nodes: &[u64], root: u64, length: u64, index: u64) -> bool
-    requires { ⌜ ((t : Tree) × Rooted (now nodes) root 12 t × (size t ≡ length) × (index < length)) ⌝ }
-    ensures { λ r. ⌜ ((t : Tree) → Rooted (now (nodes .entry)) root 12 t → size t ≡ length → r ≡ Marks.access index (marks t)) ⌝ }
+    requires { ⌜ ((t : Tree) × Rooted (now nodes) root levels t × (size t ≡ length) × (index < length)) ⌝ }
+    ensures { λ r. ⌜ ((t : Tree) → Rooted (now (nodes .entry)) root levels t → size t ≡ length
+        → r ≡ Marks.access index (marks t)) ⌝ }
 {
     let spot = reach(nodes, root, length, index);
     let leaf = spot.leaf;
@@ -110,8 +114,9 @@ fn mark_at(leaf: Leaf, at: u64) -> bool
 
 // How many strikes stand before a place.
 fn strikes(nodes: &[u64], root: u64, length: u64, end: u64) -> u64
-    requires { ⌜ ((t : Tree) × Rooted (now nodes) root 12 t × (size t ≡ length) × (end ≤ length)) ⌝ }
-    ensures { λ r. ⌜ ((t : Tree) → Rooted (now (nodes .entry)) root 12 t → size t ≡ length → r ≡ Marks.rank true end (marks t)) ⌝ }
+    requires { ⌜ ((t : Tree) × Rooted (now nodes) root levels t × (size t ≡ length) × (end ≤ length)) ⌝ }
+    ensures { λ r. ⌜ ((t : Tree) → Rooted (now (nodes .entry)) root levels t → size t ≡ length
+        → r ≡ Marks.rank true end (marks t)) ⌝ }
 {
     let spot = reach(nodes, root, length, end);
     let leaf = spot.leaf;
@@ -131,16 +136,18 @@ fn wanted(total: u64, ones: u64, bit: bool) -> u64
 
 // How many marks of a kind stand before a place.
 pub fn rank(nodes: &[u64], root: u64, length: u64, end: u64, bit: bool) -> u64
-    requires { ⌜ ((t : Tree) × Rooted (now nodes) root 12 t × (size t ≡ length) × (end ≤ length)) ⌝ }
-    ensures { λ r. ⌜ ((t : Tree) → Rooted (now (nodes .entry)) root 12 t → size t ≡ length → r ≡ Marks.rank bit end (marks t)) ⌝ }
+    requires { ⌜ ((t : Tree) × Rooted (now nodes) root levels t × (size t ≡ length) × (end ≤ length)) ⌝ }
+    ensures { λ r. ⌜ ((t : Tree) → Rooted (now (nodes .entry)) root levels t → size t ≡ length
+        → r ≡ Marks.rank bit end (marks t)) ⌝ }
 {
     wanted(end, strikes(nodes, root, length, end), bit)
 }
 
 // The place of the k-th strike, or quiet frame, k from 1. The walk passes over `skip` of the kind; where the tree has too few it ends in the last leaf.
 pub fn select(nodes: &[u64], root: u64, length: u64, bit: bool, k: u64) -> Found
-    requires { ⌜ ((t : Tree) × Rooted (now nodes) root 12 t × (size t ≡ length) × (1 ≤ k)) ⌝ }
-    ensures { λ r. ⌜ ((t : Tree) → Rooted (now (nodes .entry)) root 12 t → size t ≡ length → r ≡ found-of (Marks.select bit k (marks t))) ⌝ }
+    requires { ⌜ ((t : Tree) × Rooted (now nodes) root levels t × (size t ≡ length) × (1 ≤ k)) ⌝ }
+    ensures { λ r. ⌜ ((t : Tree) → Rooted (now (nodes .entry)) root levels t → size t ≡ length
+        → r ≡ found-of (Marks.select bit k (marks t))) ⌝ }
 {
     let mut n = root;
     let mut skip = k - 1;

@@ -6,6 +6,7 @@ ghost use mathlib.Core.Path.{_≡_};
 ghost use Prim.Native.Nat.{ℕ, _+_, _*_, _^_, _≤_, _<_};
 ghost use lib.ListN as ListN;
 ghost use lib.ListN.{drop, set};
+ghost use Rattle.model.specs.Limits.{levels};
 ghost use Rattle.model.specs.Tree.{Tree, marks, size};
 ghost use Rattle.model.specs.Word.{number, words-for, words-of};
 ghost use Rattle.bits.specs.Leaf.{leaf-of};
@@ -118,8 +119,10 @@ fn finish(out: &mut [u64], tail: Tail, words: u64)
 
 // Writes the marks of a tree out. The words after them stay.
 pub fn values(nodes: &[u64], root: u64, length: u64, out: &mut [u64])
-    requires { ⌜ ((t : Tree) × Rooted (now nodes) root 12 t × (size t ≡ length) × (words-for length ≤ ListN.length (now out))) ⌝ }
-    ensures { λ _. ⌜ ((t : Tree) → Rooted (now (nodes .entry)) root 12 t → size t ≡ length → now (out .exit) ≡ words-of (words-for length) (marks t) ++ drop (words-for length) (now (out .entry))) ⌝ }
+    requires { ⌜ ((t : Tree) × Rooted (now nodes) root levels t × (size t ≡ length)
+        × (words-for length ≤ ListN.length (now out))) ⌝ }
+    ensures { λ _. ⌜ ((t : Tree) → Rooted (now (nodes .entry)) root levels t → size t ≡ length
+        → now (out .exit) ≡ words-of (words-for length) (marks t) ++ drop (words-for length) (now (out .entry))) ⌝ }
 {
     let start = Tail {
         full: 0,

@@ -10,6 +10,7 @@ use lib.ListN.{length, take, drop, length-append, length-drop, drop-of-length-le
 use lib.Seq.{length-take-le, take-at, drop-at}
 use Rattle.model.specs.Build as Build
 use Rattle.model.specs.Build.{leaf-count}
+use Rattle.model.specs.Limits.{most-nodes}
 use Rattle.model.specs.Pool as Pool
 use Rattle.model.specs.Pool.{Pool, nodes-for}
 use Rattle.model.specs.Sound.{Sound}
@@ -96,7 +97,7 @@ module _ (ws words : List ℕ) (len : ℕ) where
 -- ---- the words
 
 -- nodes in which a sound pool is laid out, and its trailer after them
-pub stands-with : (w six : List ℕ) (n : ℕ) (p : Pool) → Laid w n p → Sound n p → 1 ≤ n → n ≤ 1023 → six ≡ trailer-of n p → Stands (w ++ six) n p
+pub stands-with : (w six : List ℕ) (n : ℕ) (p : Pool) → Laid w n p → Sound n p → 1 ≤ n → n ≤ most-nodes → six ≡ trailer-of n p → Stands (w ++ six) n p
 unfolding trailer-of
 stands-with w six n p l fine least most e = record {
   counted = record { words = length-append w six ∙ omega (arith, l .words, ap length e); some = least; most = most };
@@ -106,7 +107,7 @@ stands-with w six n p l fine least most e = record {
 }
 
 -- the same of a pool that was built
-pub stands-in : (w : List ℕ) (n : ℕ) (r : B.Built) (p : Pool) → Built.Stands w n r p → Sound n p → 1 ≤ n → n ≤ 1023
+pub stands-in : (w : List ℕ) (n : ℕ) (r : B.Built) (p : Pool) → Built.Stands w n r p → Sound n p → 1 ≤ n → n ≤ most-nodes
     → Stands (w ++ r .root ∷ size (p .tree) ∷ r .chain .first ∷ r .chain .count ∷ n ∷ 0 ∷ []) n p
 unfolding trailer-of
 stands-in w n r p s fine least most =

@@ -5,16 +5,13 @@ use Prim.Native.Nat.{ℕ, zero, suc, _+_, _*_, _≤_}
 use mathlib.Core.Path.{_≡_}
 use mathlib.Core.List.{List, [], _∷_}
 use lib.ListN.{length, take, drop, getD}
+use Rattle.model.specs.Limits.{most-nodes}
 use Rattle.model.specs.Pool.{Pool}
 use Rattle.model.specs.Sound.{Sound}
 use Rattle.model.specs.Tree.{top, size}
 use Rattle.pool.specs.Node.{node-words}
 use Rattle.pool.specs.Layout.{Laid, first-of}
 use Rattle.window.specs.declared.trailer.Trailer.{Trailer}
-
--- the most nodes of a pool
-abbrev pub most-nodes : ℕ
-most-nodes = 1023
 
 -- the words are as many as those of a pool of n nodes
 pub record Counted (ws : List ℕ) (n : ℕ) : Type 0 where

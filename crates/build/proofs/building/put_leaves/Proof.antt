@@ -7,7 +7,7 @@ use mathlib.Core.Path.{_≡_, refl}
 use denote.Ref.{now}
 use lib.ListN.{length as count-of, take, length-set}
 use Rattle.model.specs.Word.{marks-of}
-use Rattle.build.specs.Waiting.{leaf-marks}
+use Rattle.build.specs.Waiting.{leaf-marks, places}
 use Rattle.build.proofs.OneRound.{leaf-begins}
 use Rattle.build.proofs.PutLeaves.{Begun, all-begun, none-begun, one-begun}
 use Rattle.build.proofs.building.put_leaves.Statement.{statement}
@@ -15,7 +15,7 @@ use Rattle.build.proofs.building.put_leaves.Tie as tie
 
 abbrev Inv-loop : tie.InvT-loop
 Inv-loop nodes₀ words length leaves items₀ i₀ nodes items i =
-    (i ≤ leaves) × (count-of nodes ≡ count-of nodes₀) × (count-of items ≡ 512) × Begun nodes (take length (marks-of words)) leaves items i
+    (i ≤ leaves) × (count-of nodes ≡ count-of nodes₀) × (count-of items ≡ places) × Begun nodes (take length (marks-of words)) leaves items i
 
 abbrev μ-loop : tie.MeasureT-loop
 μ-loop nodes₀ words length leaves items₀ i₀ nodes items i = leaves - i

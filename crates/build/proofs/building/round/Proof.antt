@@ -7,14 +7,14 @@ use mathlib.Core.Path.{_≡_, refl}
 use mathlib.Core.List.{List}
 use lib.ListN.{length, length-set}
 use Rattle.model.specs.Tree.{Tree}
-use Rattle.build.specs.Waiting.{Waiting}
+use Rattle.build.specs.Waiting.{Waiting, places}
 use Rattle.build.proofs.Pairing.{Parted, even-ends, no-pair, odd-ends, odd-small, pair-more, pair-small}
 use Rattle.build.proofs.building.round.Statement.{statement}
 use Rattle.build.proofs.building.round.Tie as tie
 
 abbrev Inv-loop : tie.InvT-loop
 Inv-loop nodes₀ count next items made₀ i₀ nodes made i =
-    (i * 2 + 2 ≤ count) × (length nodes ≡ length nodes₀) × (length made ≡ 512)
+    (i * 2 + 2 ≤ count) × (length nodes ≡ length nodes₀) × (length made ≡ places)
     × ((ts : List Tree) → length ts ≡ count → Waiting nodes₀ next items ts → Parted nodes next items made i ts)
 
 abbrev μ-loop : tie.MeasureT-loop

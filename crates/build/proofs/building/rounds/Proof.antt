@@ -7,14 +7,14 @@ use mathlib.Core.List.{List}
 use lib.ListN.{length}
 use Rattle.model.specs.Build as Build
 use Rattle.model.specs.Tree.{Tree}
-use Rattle.build.specs.Waiting.{Waiting}
+use Rattle.build.specs.Waiting.{Waiting, places}
 use Rattle.build.proofs.Turns.{Turn, first-turn, last-turn, turned}
 use Rattle.build.proofs.building.rounds.Statement.{statement}
 use Rattle.build.proofs.building.rounds.Tie as tie
 
 abbrev Inv-loop : tie.InvT-loop
 Inv-loop nodes₀ leaves now₀ count₀ next₀ nodes now count next =
-    (1 ≤ count) × (count ≤ 512) × (next + count ≡ 2 * leaves) × (length nodes ≡ length nodes₀)
+    (1 ≤ count) × (count ≤ places) × (next + count ≡ 2 * leaves) × (length nodes ≡ length nodes₀)
     × ((ts : List Tree) → length ts ≡ leaves → Waiting nodes₀ leaves now₀ ts → Turn nodes now count next (Build.rounds leaves leaves ts))
 
 abbrev μ-loop : tie.MeasureT-loop

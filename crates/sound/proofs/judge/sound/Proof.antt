@@ -1,7 +1,7 @@
 -- The tree is visited, then the chain is followed; between them they have every node. Assumes nothing.
 use native.Mathlib.Omega.{arith}
 use denote.Ref.{now}
-use Rattle.model.proofs.Depth.{levels}
+use Rattle.model.specs.Limits.{levels}
 use Rattle.pool.specs.Node.{node-at}
 use Rattle.sound.specs.Part.{Visited, least-of}
 use Rattle.sound.proofs.Pools.{judged-chain, judged-count, judged-none, seen-few, unmarked}
