@@ -51,7 +51,7 @@ sound-nodes n p s =
     sym (length-append (numbers (p .tree)) (p .free)) ∙ sym (rearranged-length (numbers-from 0 n) (all-numbers p) (s .each)) ∙ numbers-from-length 0 n
 
 -- fewer than two of the nodes are free: the leaves are as many as the nodes allow
-sound-leaves : (n : ℕ) (p : Pool) → Sound n p → length (p .free) < 2 → leaf-total (p .tree) ≡ most-leaves n
+pub sound-leaves : (n : ℕ) (p : Pool) → Sound n p → length (p .free) < 2 → leaf-total (p .tree) ≡ most-leaves n
 sound-leaves n p s few = omega (arith, sound-nodes n p s, node-total (p .tree))
 
 -- no room: the leaf holds 127, and fewer than two nodes are free
@@ -81,7 +81,7 @@ several zero s h k = absurd (omega arith)
 several (suc zero) s h k = absurd (omega arith)
 several (suc (suc leaves)) s h k = omega arith
 
-leaves-some : (t : Tree) → 1 ≤ leaf-total t
+pub leaves-some : (t : Tree) → 1 ≤ leaf-total t
 unfolding leaf-total
 leaves-some (leaf n xs) = omega arith
 leaves-some (fork n l r) = omega (arith, leaves-some l)
@@ -106,4 +106,4 @@ floor n i p s e =
 -- for a window's pool
 pub floor-window : least-full most-nodes ≡ 16958
 unfolding floor-for
-floor-window = refl
+floor-window = omega arith

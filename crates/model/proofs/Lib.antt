@@ -22,6 +22,7 @@ pub mod PoolSound
 pub mod Rearranged
 pub mod Rounds
 pub mod Shape
+pub mod Sharp
 pub mod Table
 pub mod Tops
 pub mod TwoPools
