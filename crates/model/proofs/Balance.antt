@@ -28,6 +28,25 @@ pub record Rebalanced (l r t : Tree) : Type 0 where
 
 -- ---- turns
 
+-- A first turn never changes the child's height: a left child whose right side is one level higher, turned left before its parent is turned
+-- right, is as high as it was. That holds of any tree, balanced or not, since only a tree that leans so is turned.
+pub first-turn-left : (l : Tree) → height (leaning-left l) ≡ height l
+unfolding height turn-left leaning-left
+first-turn-left (leaf n xs) = refl
+first-turn-left (fork n a (leaf k xs)) =
+    leaning-left-cases (λ (t : Tree). height t ≡ height (fork n a (leaf k xs))) n a (leaf k xs) (λ leans. absurd (omega arith)) (λ _. refl)
+first-turn-left (fork n a (fork k c e)) =
+    leaning-left-cases (λ (t : Tree). height t ≡ height (fork n a (fork k c e))) n a (fork k c e) (λ leans. omega arith) (λ _. refl)
+
+-- the mirror image
+pub first-turn-right : (r : Tree) → height (leaning-right r) ≡ height r
+unfolding height turn-right leaning-right
+first-turn-right (leaf n xs) = refl
+first-turn-right (fork n (leaf k xs) e) =
+    leaning-right-cases (λ (t : Tree). height t ≡ height (fork n (leaf k xs) e)) n (leaf k xs) e (λ leans. absurd (omega arith)) (λ _. refl)
+first-turn-right (fork n (fork k a c) e) =
+    leaning-right-cases (λ (t : Tree). height t ≡ height (fork n (fork k a c) e)) n (fork k a c) e (λ leans. omega arith) (λ _. refl)
+
 -- a left child that leans right is turned left, and then its parent right
 double-right : (n m : ℕ) (a c r : Tree) → Balanced (fork m a c) → Balanced r → height (fork m a c) ≡ height r + 2 → height c ≡ height a + 1 → Grown (height (fork m a c)) (turn-right (fork n (turn-left (fork m a c)) r))
 unfolding height turn-right turn-left

@@ -4,6 +4,7 @@ use Prim.Native.Nat.{ℕ, zero, suc, _+_, _-_, _*_, _^_, _≤_, _<_, max}
 use native.Mathlib.Nat.{le-refl, le-trans, le-suc, zero-add, suc-add, max-eq-left, max-eq-right, eq-or-lt-of-le}
 use native.Mathlib.Omega.{arith}
 use mathlib.Core.Path.{_≡_, refl, sym, ap, _∙_}
+use mathlib.Core.Bool.{Bool}
 use mathlib.Core.List.{List, _++_}
 use mathlib.Core.Logic.{⊎-elim}
 use lib.ListN.{length, length-append}
@@ -11,8 +12,10 @@ use lib.Pow.{pow-pos}
 use Rattle.model.specs.Limits.{most-nodes, levels}
 use Rattle.model.specs.Pool.{Pool, numbers-from}
 use Rattle.model.specs.Sound.{Balanced, Sized, Sound, all-numbers}
-use Rattle.model.specs.Tree.{Tree, leaf, fork, size, height, numbers, leaf-total, fewest-leaves}
-use Rattle.model.proofs.Cases.{by-leb}
+use Rattle.model.specs.Marks.{count}
+use Rattle.model.specs.Tree.{Tree, leaf, fork, marks, size, height, numbers, leaf-total, fewest-leaves}
+use Rattle.model.specs.Walk.{Within, steps-to, steps-for}
+use Rattle.model.proofs.Cases.{by-leb, by-ltb}
 use Rattle.model.proofs.NumbersFrom.{numbers-from-length}
 use Rattle.model.proofs.Rearranged.{rearranged-length}
 
@@ -68,6 +71,47 @@ depth n p h s = by-leb (height (p .tree)) levels (λ _ k. k) (λ _ k. absurd (de
         let few : fewest-leaves 13 ≤ fewest-leaves ((height (p .tree) - 13) + 13) = fewest-mono (height (p .tree) - 13) 13 in
         let back : (height (p .tree) - 13) + 13 ≡ height (p .tree) = omega arith in
         omega (arith, node-total (p .tree), fewest (p .tree) (s .balanced), rw back at few, numbers-from-length 0 n)
+
+-- ---- how far a question goes down
+
+-- a tree is as high as its lowest leaf is deep
+pub all-within : (k : ℕ) (t : Tree) → height t ≤ k → Within k t
+unfolding height
+all-within k (leaf n xs) h = tt
+all-within zero (fork n l r) h = absurd (omega arith)
+all-within (suc k) (fork n l r) h = (all-within k l (omega arith), all-within k r (omega arith))
+
+-- a walk to a place, and one to the k-th mark of a kind, take no more steps than the tree has levels
+pub steps-to-height : (i : ℕ) (t : Tree) → steps-to i t ≤ height t
+unfolding steps-to height
+steps-to-height i (leaf n xs) = omega arith
+steps-to-height i (fork n l r) =
+    by-ltb i (size l)
+    (λ e _. rw (steps-to, e) (omega (arith, steps-to-height i l)))
+    (λ e _. rw (steps-to, e) (omega (arith, steps-to-height (i - size l) r)))
+
+pub steps-for-height : (b : Bool) (k : ℕ) (t : Tree) → steps-for b k t ≤ height t
+unfolding steps-for height
+steps-for-height b k (leaf n xs) = omega arith
+steps-for-height b k (fork n l r) =
+    by-leb k (count b (marks l))
+    (λ e _. rw (steps-for, e) (omega (arith, steps-for-height b k l)))
+    (λ e _. rw (steps-for, e) (omega (arith, steps-for-height b (k - count b (marks l)) r)))
+
+module _ (n : ℕ) (p : Pool) (most : n ≤ most-nodes) (s : Sound n p) where
+  -- every leaf of a sound pool is at most 12 levels down
+  pub leaves-within : Within levels (p .tree)
+  leaves-within = all-within levels (p .tree) (depth n p most s)
+
+  -- access, rank, an insert and a remove take at most 12 steps down to the leaf of their place
+  pub place-in-twelve : (i : ℕ) → steps-to i (p .tree) ≤ levels
+  place-in-twelve i = le-trans (steps-to-height i (p .tree)) (depth n p most s)
+
+  -- and so does select, to the leaf of the mark that it looks for
+  pub select-in-twelve : (b : Bool) (k : ℕ) → steps-for b k (p .tree) ≤ levels
+  select-in-twelve b k = le-trans (steps-for-height b k (p .tree)) (depth n p most s)
+
+-- ---- how much a tree holds
 
 -- a tree of few levels holds few marks
 pub size-bound : (least : ℕ) (t : Tree) (h : ℕ) → Sized least t → height t ≤ h → size t ≤ 127 * 2 ^ h

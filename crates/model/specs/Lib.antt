@@ -7,4 +7,5 @@ pub mod Edit
 pub mod Pool
 pub mod Sound
 pub mod Limits
+pub mod Walk
 pub mod Reference
