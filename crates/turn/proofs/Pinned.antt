@@ -19,9 +19,14 @@ use Rattle.pool.specs.Layout.{Holds, Edited}
 use Rattle.pool.specs.Node.{node-at}
 use Rattle.pool.specs.declared.node.Node.the-variants as Node
 use Rattle.pool.proofs.Cells.{same-nodes}
-use Rattle.turn.proofs.Differences.{one}
+use Rattle.turn.proofs.Differences.{both, one}
+use Rattle.turn.proofs.balance.stored.Reads as stored
 use Rattle.turn.proofs.changed.child_changed.Reads as child-changed
 use Rattle.turn.proofs.turning.rebalance.Reads as rebalance
+
+-- a balance is stored as one number only
+pub stored-pinned : (κs : _) (a : _) (r r′ : _) (w w′ : _) → stored.Post κs a r w → stored.Post κs a r′ w′ → r ≡ r′
+stored-pinned κs a r r′ w w′ p q = omega (arith, both (a .0) p q)
 
 member-or-not : (k : ℕ) (ns : List ℕ) → List·Memᴰ k ns ⊎ (List·Memᴰ k ns → ⊥)
 member-or-not k [] = inr List·Memᴰ·not-nil
