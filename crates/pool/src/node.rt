@@ -1,5 +1,7 @@
-// A node of the pool, read from its six words and written to them. Every function takes any words and any number: where
-// there is no such node, or its words are not laid out as one, a reader says so and a writer does nothing.
+// A node of the pool, read from its six words and written to them. Readers and writers take any words and any number:
+// where there is no such node, or its words are not laid out as one, a reader says so and a writer does nothing. Two
+// shorter ways are for callers who know what stands at n: `leaf_or_fork` reads a node of a tree, and `less_left` writes
+// two words of a fork.
 //
 //     free        0, next free number, 0, 0, 0, 0
 //     leaf        1, low word, high word, 0, 0, 0

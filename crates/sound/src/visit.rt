@@ -1,5 +1,5 @@
-// Whether a tree stands in some node words from a number down, with as many marks as its parent says. Every node is met at most once, and
-// there is a limit to the levels, so the visit ends on any words.
+// Whether a tree stands in some node words from a number down, with as many marks as its parent says. Every node is met
+// at most once, and there is a limit to the levels, so the visit ends whatever stands in the node words.
 use crate::met::meet;
 use bits::Leaf;
 use pool::Fork;

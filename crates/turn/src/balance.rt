@@ -2,6 +2,7 @@
 ghost use Prim.Native.Nat.{ℕ, _≤_, max, suc};
 ghost use Rattle.turn.specs.Apart.{Apart, Within};
 
+// The balance that is stored as a number, which is at most 4.
 pub fn signed(stored: u64) -> i64
     requires { ⌜ stored ≤ 4 ⌝ }
     ensures { λ r. ⌜ Apart r stored 2 ⌝ }
@@ -9,6 +10,7 @@ pub fn signed(stored: u64) -> i64
     stored as i64 - 2
 }
 
+// The number that a balance from -2 to 2 is stored as.
 pub fn stored(balance: i64) -> u64
     requires { ⌜ Within 2 balance ⌝ }
     ensures { λ r. ⌜ Apart balance r 2 ⌝ }
@@ -26,7 +28,7 @@ pub fn higher(one: i64, other: i64) -> i64
     one
 }
 
-// The height of a fork whose children have these heights. All are told against one height.
+// The height of a fork whose children have these heights, from -99 to 99. All are told against one height.
 pub fn above(left: i64, right: i64) -> i64
     requires { ⌜ (Within 99 left) × (Within 99 right) ⌝ }
     ensures { λ r. ⌜ ((x : ℕ) (y : ℕ) (k : ℕ) → Apart left x k → Apart right y k → Apart r (suc (max x y)) k) ⌝ }
