@@ -1,18 +1,16 @@
 -- How many marks a pool holds at the least when an insert finds no room. The leaf that it leads to holds 127, every other but the rightmost 33 or
 -- more, the rightmost one or more, and fewer than two nodes are free, so the leaves are as many as the nodes allow.
-use Prim.Native.Nat.{ℕ, zero, suc, _+_, _-_, _*_, _/_, _≤_, _<_}
+use Prim.Native.Nat.{ℕ, zero, suc, _+_, _-_, _*_, _≤_, _<_}
 use native.Mathlib.Omega.{arith}
-use mathlib.Core.Path.{_≡_, refl, sym, _∙_}
-use mathlib.Core.Bool.{Bool, true, false, _&&_}
-use mathlib.Core.List.{List, _++_}
-use lib.Dec.{leb, ltb}
+use mathlib.Core.Path.{_≡_, sym, _∙_}
+use mathlib.Core.Bool.{Bool, true, false}
 use lib.ListN.{length, length-append}
 use Rattle.model.specs.Edit.{leaf-at, splits, leaf-split}
 use Rattle.model.specs.Limits.{most-leaves, most-nodes, floor-for, least-full}
 use Rattle.model.specs.Pool.{Pool, full, numbers-from}
 use Rattle.model.specs.Sound.{Sized, Sound, Whole, leaf-least, leaf-most, all-numbers}
 use Rattle.model.specs.Tree.{Tree, leaf, fork, size, leaf-total, numbers}
-use Rattle.model.proofs.Cases.{by-ltb, by-leb, by-test}
+use Rattle.model.proofs.Cases.{by-ltb, by-leb}
 use Rattle.model.proofs.Depth.{node-total}
 use Rattle.model.proofs.Leaves.{sized-weaken}
 use Rattle.model.proofs.NumbersFrom.{numbers-from-length}

@@ -24,6 +24,7 @@ pub mod Rounds
 pub mod Shape
 pub mod Sharp
 pub mod Table
+pub mod Thinned
 pub mod Tops
 pub mod TwoPools
 pub mod Words

@@ -7,5 +7,6 @@ pub mod Edit
 pub mod Pool
 pub mod Sound
 pub mod Limits
+pub mod Sharp
 pub mod Walk
 pub mod Reference

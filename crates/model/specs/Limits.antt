@@ -1,12 +1,6 @@
 -- What so many nodes have room for: leaves, levels, and the fewest marks at which an insert can find no room.
-use Prim.Native.Nat.{ℕ, zero, suc, _+_, _*_, _/_, _≤_, _<_}
-use mathlib.Core.Path.{_≡_}
-use mathlib.Core.Bool.{true}
-use lib.ListN.{length}
-use Rattle.model.specs.Edit.{leaf-at}
-use Rattle.model.specs.Pool.{Pool, full}
-use Rattle.model.specs.Sound.{Sound, leaf-least, leaf-most}
-use Rattle.model.specs.Tree.{size}
+use Prim.Native.Nat.{ℕ, zero, suc, _+_, _*_, _/_}
+use Rattle.model.specs.Sound.{leaf-least, leaf-most}
 
 -- the most nodes that a pool has; a window's pool has so many
 abbrev pub most-nodes : ℕ
@@ -32,12 +26,3 @@ floor-for (suc (suc others)) = leaf-most + leaf-least * others + 1
 -- tree has as many leaves as the nodes allow.
 abbrev pub least-full : ℕ → ℕ
 least-full n = floor-for (most-leaves n)
-
--- A sound pool of n nodes that has no room for a mark at place i, though it holds no more marks than least-full says.
-pub record Sharp (n i : ℕ) (p : Pool) : Type 0 where
-  pub sound : Sound n p
-  pub within : i ≤ size (p .tree)
-  pub leaf-full : length (leaf-at i (p .tree)) ≡ leaf-most
-  pub few-free : length (p .free) < 2
-  pub refused : full i p ≡ true
-  pub held : size (p .tree) ≡ least-full n
