@@ -23,7 +23,7 @@ ghost use Rattle.build.specs.Waiting.{Forked, Freeing, Grown, Leafy, Pla
 const LEAF_BUILT: u64 = 64;
 
 // How many trees wait at most: the leaves that 1,023 nodes have room for.
-const MOST_LEAVES: usize = 512;
+const PLACES: usize = 512;
 
 // A tree that waits to be joined: its top number, its marks, its strikes and its height.
 struct Item {
@@ -115,7 +115,7 @@ fn put_leaves(nodes: &mut [u64], words: &[u64], length: u64, leaves: u64) -> [It
     requires { ⌜ Leafy (now nodes) (now words) length leaves ⌝ }
     ensures { λ r. ⌜ Planted (now (nodes .entry)) (now (nodes .exit)) (take length (marks-of (now (words .entry)))) leaves r ⌝ }
 {
-    let mut items = [nothing(); MOST_LEAVES];
+    let mut items = [nothing(); PLACES];
     let mut i = 0;
     while i < leaves {
         let item = put_leaf(nodes, words, length, i);

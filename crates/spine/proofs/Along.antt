@@ -60,9 +60,11 @@ module _ {w : List ℕ} {n levels : ℕ} (t : Tree) (h : Rooted w n levels t) wh
   last-size-leaf {z} {x} read = by-leaf (λ t. size t ≡ z → z ≡ length (last-leaf t)) t x h read (λ m xs h p e. sym e)
 
   module _ {f : Fork} (read : node-at w n ≡ fork f) where
-    pub left-below : (l : Tree) × Rooted w (f .left) (levels - 1) l
+    pub left-below : (l : Tree) × Rooted w (f .left) (levels - 1) l × (size l ≡ f .«left_total»)
     unfolding fork-of
-    left-below = by-fork (λ t. (l : Tree) × Rooted w (f .left) (levels - 1) l) t f h read (λ m l r h s. (l, rw s (left-rooted m l r h)))
+    left-below =
+        by-fork (λ t. (l : Tree) × Rooted w (f .left) (levels - 1) l × (size l ≡ f .«left_total»)) t f h read
+        (λ m l r h s. (l, rw s (left-rooted m l r h), sym (left-total l r s)))
 
     pub right-below : {z : ℕ} → size t ≡ z → (r : Tree) × Rooted w (f .right) (levels - 1) r × (size r ≡ z - f .«left_total»)
     unfolding fork-of

@@ -19,8 +19,9 @@ use pool::set_leaf;
 
 // How many marks the leftmost leaf of the tree at n holds, which holds `length` in all.
 pub fn first_leaf_size(nodes: &[u64], n: u64, length: u64, levels: u64) -> u64
-    requires { ⌜ ((t : Tree) × Rooted (now nodes) n levels t) ⌝ }
-    ensures { λ r. ⌜ ((t : Tree) → Rooted (now (nodes .entry)) n levels t → Tree.size t ≡ length → r ≡ ListN.length (first-leaf t)) ⌝ }
+    requires { ⌜ ((t : Tree) × Rooted (now nodes) n levels t × (Tree.size t ≡ length)) ⌝ }
+    ensures { λ r. ⌜ ((t : Tree) → Rooted (now (nodes .entry)) n levels t → Tree.size t ≡ length
+        → r ≡ ListN.length (first-leaf t)) ⌝ }
 {
     match node_at(nodes, n) {
         Node::Leaf(_) => length,

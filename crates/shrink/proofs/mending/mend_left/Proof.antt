@@ -52,7 +52,7 @@ first-leaf-size-requires : tie.Need-first-leaf-size-requires
 first-leaf-size-requires c κs =
     let f = c .before .before in
     let g = given (f .before .before .before) in
-    (g .r, over-left (g .l) (g .r) (g .free) (g .stands) (read f g) .right)
+    (g .r, over-left (g .l) (g .r) (g .free) (g .stands) (read f g) .right, omega (arith, left-total f g, g .total))
 
 merge-left-requires : tie.Need-merge-left-requires
 merge-left-requires c κs =
