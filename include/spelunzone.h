@@ -34,7 +34,7 @@ enum {
     SZ_SHORT_OUTPUT = 8, /* a call: the output has too few words */
     SZ_PART_ORDER = 9,   /* run: the orders are not three words each */
     SZ_TOO_LONG = 10,    /* build: the length is more than 64 for each word */
-    SZ_LEAF_LACKS = 11   /* a select in a damaged tree; a pool that is sound, and others are refused, never gives it */
+    SZ_LEAF_LACKS = 11   /* no call and no order gives it: it is the Rust's runtime error, and the number is kept for it */
 };
 
 /* The orders of a run, three words each: the number, and then */

@@ -1,9 +1,9 @@
 -- Demand 3, the floor. For a user: however a window was built and whatever was ordered since, over any number of runs, a pool of N nodes answers no
 -- insert Full below so many marks: 127 where there is room for one leaf, else 33 for each leaf that the nodes allow, and 62. For the 1,023 nodes of a
 -- window these are 16,958.
-use Prim.Native.Nat.{ℕ, _≤_}
+use Prim.Native.Nat.{ℕ, _≤_, _<_}
 use native.Mathlib.Omega.{arith}
-use mathlib.Core.Path.{_≡_, _∙_}
+use mathlib.Core.Path.{_≡_, sym, _∙_}
 use mathlib.Core.Bool.{Bool}
 use mathlib.Core.List.{List}
 use mathlib.Core.Option.{some}
@@ -14,12 +14,11 @@ use Rattle.model.specs.Pool.{Pool}
 use Rattle.model.specs.Sound.{Sound}
 use Rattle.model.specs.Tree.{marks}
 use Rattle.model.proofs.Content.{size-marks}
-use Rattle.model.proofs.Floor.{floor, floor-window, means-full}
-use Rattle.model.proofs.PoolSound.{build-sound}
-use Rattle.window.specs.Orders.{Asked, answer, after-all}
+use Rattle.model.proofs.Floor.{floor, means-full}
+use Rattle.model.proofs.Sharp.{floor-sharp}
+use Rattle.window.specs.Orders.{Asked, inserting, answer}
 use Rattle.window.specs.declared.answer.Answer.the-variants.{Full}
-use Rattle.demands.proofs.OrderByOrder.{after-all-sound}
-use Rattle.demands.proofs.Refusals.{full-only-if}
+use Rattle.demands.proofs.Refusals.{Roomless, full-if, full-only-if}
 
 -- any order that a sound pool answers Full
 pub full-above-floor : (n : ℕ) (o : Asked) (p : Pool) → Sound n p → answer o p ≡ Full → least-full n ≤ length (marks (p .tree))
@@ -29,12 +28,16 @@ full-above-floor n o p s e =
     let m = size-marks (p .tree) in
     omega arith
 
--- after any build and any orders
-pub floor-after-any-orders : (n : ℕ) (xs : List Bool) (p : Pool) (os : List Asked) (o : Asked) → Pool.build n xs ≡ some p → answer o (after-all os p) ≡ Full
-    → least-full n ≤ length (marks (after-all os p .tree))
-floor-after-any-orders n xs p os o b e = full-above-floor n o (after-all os p) (after-all-sound n os p (build-sound n xs p b)) e
-
--- a window's pool
-pub window-floor : (xs : List Bool) (p : Pool) (os : List Asked) (o : Asked) → Pool.build 1023 xs ≡ some p → answer o (after-all os p) ≡ Full
-    → 16958 ≤ length (marks (after-all os p .tree))
-window-floor xs p os o b e = omega (arith, floor-window, floor-after-any-orders 1023 xs p os o b e)
+-- and no greater number would do
+pub sharp : (n : ℕ) → 1 ≤ n
+    → (p : Pool) × (i : ℕ) × Sound n p × (length (marks (p .tree)) ≡ least-full n) × ((b : Bool) → answer (inserting i b) p ≡ Full)
+sharp n least =
+    let k = floor-sharp n least in
+    let p = k .1 in
+    let m = size-marks (p .tree) in (
+      p,
+      k .0,
+      k .2 .sound,
+      sym m ∙ k .2 .held,
+      (λ b. full-if (k .0) b p (record { in-range = omega (arith, k .2 .within); leaf-full = k .2 .leaf-full; few-free = k .2 .few-free })),
+    )

@@ -1,17 +1,10 @@
 -- Each promise, and the law that keeps it.
-use mathlib.Core.Path.{_≡_}
-use Rattle.window.specs.Orders.{inserting, answer}
-use Rattle.window.specs.declared.answer.Answer.the-variants.{Full}
-use Rattle.demands.specs.Promises.{RefusedChangesNothing, RefusedBuildChangesNothing, RefusedValuesChangesNothing, RefusedRunChangesNothing, AnswersAreTheLists, WithRoomAllIsTheLists, NoRoom, FullExactly, SizesAgree, NoFullBelowTheFloor, NoFullBelow16958, NothingLost, DoneIsDone, FullIsTold}
+use native.Mathlib.Omega.{arith}
+use Rattle.demands.specs.Promises.{RefusedBuildChangesNothing, RefusedValuesChangesNothing, RefusedRunChangesNothing, RefusedOrderChangesNoWord, RefusedListChangesNoWord, AnswersAreTheLists, WithRoomAllIsTheLists, FullExactly, SizesAgree, NoFullBelowTheFloor, NoFullBelow16958, FloorIsSharp, NothingLostByCount, NothingLostByMarks, DoneIsDone, FullIsTold, OrderCodes, ListsMayBeCut}
+use Rattle.demands.proofs.Exchanges as Exchanges
 use Rattle.demands.proofs.Floor as Floor
-use Rattle.demands.proofs.NothingLost as NothingLost′
+use Rattle.demands.proofs.Histories as Histories
 use Rattle.demands.proofs.RefusedCalls as RefusedCalls
-use Rattle.demands.proofs.Refusals as Refusals
-use Rattle.demands.proofs.TheList as TheList
-use Rattle.demands.proofs.TwoPools as TwoPools
-
-pub refused-changes-nothing : RefusedChangesNothing
-refused-changes-nothing = Refusals.refused-changes-nothing
 
 pub refused-build-changes-nothing : RefusedBuildChangesNothing
 refused-build-changes-nothing = RefusedCalls.build-refused
@@ -22,32 +15,55 @@ refused-values-changes-nothing = RefusedCalls.values-refused
 pub refused-run-changes-nothing : RefusedRunChangesNothing
 refused-run-changes-nothing = RefusedCalls.run-refused
 
+pub refused-order-changes-no-word : RefusedOrderChangesNoWord
+refused-order-changes-no-word ws e r refused = Exchanges.refused-order r refused
+
+pub refused-list-changes-no-word : RefusedListChangesNoWord
+refused-list-changes-no-word = Exchanges.refused-list
+
 pub answers-are-the-lists : AnswersAreTheLists
-answers-are-the-lists = TheList.the-list
+answers-are-the-lists slice words len lists ws told h =
+    let b = Histories.built h in
+    let m = Histories.means h in
+    (Histories.every-answer b m, Histories.follows-list b m)
 
 pub with-room-all-is-the-lists : WithRoomAllIsTheLists
-with-room-all-is-the-lists = TheList.the-list-with-room
+with-room-all-is-the-lists slice words len lists ws told h room = Histories.with-room (Histories.built h) (Histories.means h) room
 
 pub full-exactly : FullExactly
-full-exactly n i b p s = (only, λ h. Refusals.full-if n i b p s (h .in-range) (h .leaf-full) (h .few-free))
-  where
-    only : answer (inserting i b) p ≡ Full → NoRoom i p
-    only e = Refusals.full-insert n i b p s e
+full-exactly ws e n p r s i =
+    ((λ t. Exchanges.told-then-no-room r s (t .code) .1), (λ lack. Exchanges.no-room-then-told r s i lack))
 
 pub sizes-agree : SizesAgree
-sizes-agree = TwoPools.two-pools
+sizes-agree = Histories.sizes-agree
 
 pub no-full-below-the-floor : NoFullBelowTheFloor
-no-full-below-the-floor = Floor.floor-after-any-orders
+no-full-below-the-floor = Exchanges.floor-in-history
 
 pub no-full-below-16958 : NoFullBelow16958
-no-full-below-16958 = Floor.window-floor
+no-full-below-16958 slice words len lists ws told e size h r f =
+    omega (arith, Exchanges.window-floor slice words len lists ws told e size h r f)
 
-pub nothing-lost : NothingLost
-nothing-lost = NothingLost′.nothing-lost
+pub floor-is-sharp : FloorIsSharp
+floor-is-sharp = Floor.sharp
+
+pub nothing-lost-by-count : NothingLostByCount
+nothing-lost-by-count slice words len lists ws told count h c =
+    omega (arith, Histories.by-count (Histories.built h) (Histories.means h) count c)
+
+pub nothing-lost-by-marks : NothingLostByMarks
+nothing-lost-by-marks slice words len lists ws told out k out′ h v =
+    Histories.by-marks (Histories.built h) (Histories.means h) out k out′ v
 
 pub done-is-done : DoneIsDone
-done-is-done = ((λ i b p e. NothingLost′.insert-done i b p e .1), (λ i p e. NothingLost′.remove-done i p e .2))
+done-is-done ws e n m p q r s t c = (Exchanges.inserted r s t c, Exchanges.removed r s t c)
 
 pub full-is-told : FullIsTold
-full-is-told = NothingLost′.told-full
+full-is-told ws e n p r s =
+    (Exchanges.told-then-no-room r s, (λ i lack. Exchanges.no-room-then-told r s i lack .code), Exchanges.else-the-list r s)
+
+pub order-codes : OrderCodes
+order-codes ws e r = Exchanges.order-code r
+
+pub lists-may-be-cut : ListsMayBeCut
+lists-may-be-cut = Exchanges.cut

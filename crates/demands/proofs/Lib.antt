@@ -1,7 +1,10 @@
+pub mod Exchanges
 pub mod Floor
+pub mod Histories
 pub mod Kept
 pub mod NothingLost
 pub mod OrderByOrder
+pub mod Reading
 pub mod RefusedCalls
 pub mod Refusals
 pub mod TheList

@@ -1,77 +1,27 @@
--- Nothing is lost. For a user: the marks held after any orders are as many as before, and the inserts answered 0, less the removes answered 0. What
--- was answered 0 was carried out; what was not carried out has its code; and no room is told by the code 4, and by no other. So a quiet storm and a
--- full queue never look the same.
-use Prim.Native.Nat.{ℕ, zero, suc, _+_, _≤_, _<_}
+-- Nothing is lost. For a user: what was answered 0 was carried out, what was not changed nothing, and so the marks held after any
+-- orders are as many as before, and the inserts answered 0, less the removes answered 0.
+use Prim.Native.Nat.{ℕ, zero, suc, _+_, _%_, _≤_, _<_}
 use native.Mathlib.Omega.{arith}
 use mathlib.Core.Path.{_≡_, refl, sym, ap, _∙_}
-use mathlib.Core.Bool.{Bool, true, false}
+use mathlib.Core.Bool.{Bool, true, false, _&&_}
 use mathlib.Core.List.{List, [], _∷_}
-use mathlib.Core.Option.{Option, none, some}
-use lib.Dec.{leb, ltb}
+use lib.Dec.{eqb}
 use lib.ListN.{length}
+use borrow.Author.Tests.{eqb-true, eqb-false, eq-eqb}
 use Rattle.model.specs.Marks as Marks
-use Rattle.model.specs.Pool as Pool
 use Rattle.model.specs.Pool.{Pool}
-use Rattle.model.specs.Sound.{Sound}
 use Rattle.model.specs.Tree.{marks}
 use Rattle.model.proofs.Cases.{by-leb, by-ltb, by-test}
 use Rattle.model.proofs.MarksEdits.{length-insert, length-remove}
-use Rattle.window.specs.Answer.{code}
-use Rattle.window.specs.Orders.{Asked, inserting, removing, accessing, ranking, selecting, quiet, unknown, in-range, placed, no-room, answer, after, answers, after-all, list-answer, list-after, bit-value}
-use Rattle.window.specs.declared.answer.Answer.{Answer}
-use Rattle.window.specs.declared.answer.Answer.the-variants.{Done, Full}
-use Rattle.demands.specs.Following.{done, put-in, taken-out, total}
-use Rattle.demands.specs.Promises.{NoRoom}
-use Rattle.demands.proofs.Refusals.{full-only-if}
-use Rattle.demands.proofs.OrderByOrder.{list-codes, after-marks}
-use Rattle.demands.proofs.TheList.{one-order, one-order-full}
-
--- ---- one order
-
--- the plain list
-list-kept : (o : Asked) (xs : List Bool) → length (list-after o xs) + taken-out o (list-answer o xs) ≡ length xs + put-in o (list-answer o xs)
-unfolding list-after list-answer put-in taken-out done code
-list-kept (inserting i b) xs =
-    by-leb i (length xs)
-    (λ t h. rw (list-after, list-answer, t) (omega (arith, length-insert i b xs h)))
-    (λ t h. rw (list-after, list-answer, t) (omega arith))
-list-kept (removing i) xs =
-    by-ltb i (length xs)
-    (λ t h. rw (list-after, list-answer, t) (omega (arith, length-remove i xs h)))
-    (λ t h. rw (list-after, list-answer, t) (omega arith))
-list-kept (accessing i) xs = refl
-list-kept (ranking end b) xs = refl
-list-kept (selecting k b) xs = refl
-list-kept quiet xs = refl
-list-kept unknown xs = refl
-
-full-moves-nothing : (o : Asked) → (taken-out o Full ≡ 0) × (put-in o Full ≡ 0)
-unfolding put-in taken-out done code
-full-moves-nothing (inserting i b) = (refl, refl)
-full-moves-nothing (removing i) = (refl, refl)
-full-moves-nothing (accessing i) = (refl, refl)
-full-moves-nothing (ranking end b) = (refl, refl)
-full-moves-nothing (selecting k b) = (refl, refl)
-full-moves-nothing quiet = (refl, refl)
-full-moves-nothing unknown = (refl, refl)
-
--- a pool
-pub order-kept : (o : Asked) (p : Pool) → length (marks (after o p .tree)) + taken-out o (answer o p) ≡ length (marks (p .tree)) + put-in o (answer o p)
-order-kept o p =
-    by-test (no-room o p)
-    (λ e.
-    let k = one-order-full o p e in
-    let m = full-moves-nothing o in
-    rw (k .0, k .1) (omega (arith, m .0, m .1)))
-    (λ e. let k = one-order o p e in rw (k .0, k .1) (list-kept o (marks (p .tree))))
-
--- ---- a whole list of orders
-
-pub nothing-lost : (os : List Asked) (p : Pool)
-    → length (marks (after-all os p .tree)) + total taken-out os (answers os p) ≡ length (marks (p .tree)) + total put-in os (answers os p)
-unfolding answers after-all total
-nothing-lost [] p = refl
-nothing-lost (o ∷ os) p = omega (arith, order-kept o p, nothing-lost os (after o p))
+use Rattle.window.specs.Answer.{code, value}
+use Rattle.window.specs.Orders.{asks, with-bit, with-zero, inserting, removing, accessing, ranking, selecting, quiet, unknown, in-range, no-room, answer, after, answers, after-all, answer-words, orders-of, list-answer, list-after, bit-value}
+use Rattle.window.specs.declared.answer.Answer.the-variants.{Done}
+use Rattle.demands.specs.Following.{counts, done}
+use Rattle.demands.specs.History.{Entry, log}
+use Rattle.demands.proofs.OrderByOrder.{after-marks, by-kind}
+use Rattle.demands.proofs.Reading.{tells, becomes}
+use Rattle.demands.proofs.Refusals.{refused-changes-nothing}
+use Rattle.demands.proofs.TheList.{done-marks}
 
 -- ---- done is done
 
@@ -93,16 +43,100 @@ remove-done i p e =
     (λ u h. (h, ap (λ (c : Bool). in-range c (Done (bit-value (Marks.access i (marks (p .tree)))))) u, after-marks (removing i) p refl ∙ rw (list-after, u)))
     (λ u h. absurd (omega (arith, rw u at e)))
 
--- ---- no room is told, and nothing else is told so
+-- ---- what is counted
 
-pub full-is-told : (o : Asked) (p : Pool) → no-room o p ≡ true → code (answer o p) ≡ 4
-unfolding code
-full-is-told o p e = ap code (one-order-full o p e .0)
+module _ (number : ℕ) (e : Entry) where
+  counts-done : e .code ≡ 0 → e .number ≡ number → counts number e ≡ 1
+  unfolding counts
+  counts-done c n = rw (counts, c, eq-eqb (e .number) number n)
 
-pub told-is-full : (o : Asked) (p : Pool) → code (answer o p) ≡ 4 → no-room o p ≡ true
-unfolding answer
-told-is-full o p e = by-test (no-room o p) (λ t. t) (λ t. absurd (list-codes o (marks (p .tree)) .0 (rw (answer, t) at e)))
+  counts-other : (e .number ≡ number → ⊥) → counts number e ≡ 0
+  unfolding counts
+  counts-other n =
+      by-test (eqb (e .code) 0)
+      (λ t. by-test (eqb (e .number) number) (λ u. absurd (n (eqb-true (e .number) number u))) (λ u. rw (counts, t, u)))
+      (λ t. rw (counts, t))
 
--- so the code 4 tells an insert that found no room
-pub told-full : (n : ℕ) (o : Asked) (p : Pool) → Sound n p → code (answer o p) ≡ 4 → (i : ℕ) × (b : Bool) × (o ≡ inserting i b) × NoRoom i p
-told-full n o p s e = full-only-if n o p s (one-order-full o p (told-is-full o p e) .0)
+  counts-refused : (e .code ≡ 0 → ⊥) → counts number e ≡ 0
+  unfolding counts
+  counts-refused c = by-test (eqb (e .code) 0) (λ t. absurd (c (eqb-true (e .code) 0 t))) (λ t. rw (counts, t))
+
+-- ---- one order
+
+-- an order of three words, with its answer
+abbrev entry : ℕ → ℕ → ℕ → Pool → Entry
+entry n x y p =
+    record { number = n; second = x; third = y; code = code (answer (asks n x y) p); value = value (answer (asks n x y) p) }
+
+-- it keeps the marks, but for those that it puts in or takes out
+abbrev Keeps : ℕ → ℕ → ℕ → Pool → Type 0
+Keeps n x y p =
+    length (marks (after (asks n x y) p .tree)) + counts 2 (entry n x y p) ≡ length (marks (p .tree)) + counts 1 (entry n x y p)
+
+-- an insert and a remove that are answered 0
+inserted : (x y : ℕ) (b : Bool) (p : Pool) → asks 1 x y ≡ inserting x b → code (answer (asks 1 x y) p) ≡ 0 → Keeps 1 x y p
+inserted x y b p a e =
+    let k = insert-done x b p (rw a at e) in
+    let put : marks (after (asks 1 x y) p .tree) ≡ Marks.insert x b (marks (p .tree)) = rw a (k .1) in
+    omega (
+      arith,
+      ap length put,
+      length-insert x b (marks (p .tree)) (k .0),
+      counts-done 1 (entry 1 x y p) e refl,
+      counts-other 2 (entry 1 x y p) (λ z. omega arith),
+    )
+
+removed : (x y : ℕ) (p : Pool) → asks 2 x y ≡ removing x → code (answer (asks 2 x y) p) ≡ 0 → Keeps 2 x y p
+removed x y p a e =
+    let k = remove-done x p (rw a at e) in
+    let taken : marks (after (asks 2 x y) p .tree) ≡ Marks.remove x (marks (p .tree)) = rw a (k .2) in
+    omega (
+      arith,
+      ap length taken,
+      length-remove x (marks (p .tree)) (k .0),
+      counts-done 2 (entry 2 x y p) e refl,
+      counts-other 1 (entry 2 x y p) (λ z. omega arith),
+    )
+
+-- any other order leaves the pool as it is
+left : (n x y : ℕ) (p : Pool) → (n ≡ 1 → ⊥) → (n ≡ 2 → ⊥) → after (asks n x y) p ≡ p → Keeps n x y p
+left n x y p one two e =
+    omega
+    (arith, ap (λ (q : Pool). length (marks (q .tree))) e, counts-other 1 (entry n x y p) one, counts-other 2 (entry n x y p) two)
+
+-- one that is not answered 0
+refused : (n x y : ℕ) (p : Pool) → (code (answer (asks n x y) p) ≡ 0 → ⊥) → Keeps n x y p
+refused n x y p c =
+    omega (
+      arith,
+      ap (λ (q : Pool). length (marks (q .tree))) (refused-changes-nothing (asks n x y) p c),
+      counts-refused 1 (entry n x y p) c,
+      counts-refused 2 (entry n x y p) c,
+    )
+
+-- any order
+kept : (n x y : ℕ) (p : Pool) → Keeps n x y p
+unfolding answer no-room list-answer code
+kept n x y p =
+    by-test (eqb (code (answer (asks n x y) p)) 0)
+    (λ t.
+    let e = eqb-true (code (answer (asks n x y) p)) 0 t in
+    by-kind n x y
+    (λ b one bit a. rw one (inserted x y b p (rw one at a) (rw one at e)))
+    (λ two a. rw two (removed x y p (rw two at a) (rw two at e)))
+    (λ q. left n x y p (λ one. omega (arith, q .number)) (λ two. omega (arith, q .number)) (q .leaves p))
+    (λ u. absurd (omega (arith, rw u at e))))
+    (λ t. refused n x y p (eqb-false (code (answer (asks n x y) p)) 0 t))
+
+-- ---- a whole list of orders, in words
+
+pub nothing-lost : (orders : List ℕ) (p : Pool) → length orders % 3 ≡ 0
+    → length (marks (becomes orders p .tree)) + done 2 (log orders (tells orders p))
+    ≡ length (marks (p .tree)) + done 1 (log orders (tells orders p))
+unfolding log orders-of answers after-all answer-words done
+nothing-lost [] p h = refl
+nothing-lost (n ∷ []) p h = absurd (omega arith)
+nothing-lost (n ∷ x ∷ []) p h = absurd (omega arith)
+nothing-lost (n ∷ x ∷ y ∷ orders) p h =
+    let o = asks n x y in
+    omega (arith, kept n x y p, nothing-lost orders (after o p) (omega arith))

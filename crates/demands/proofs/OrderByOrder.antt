@@ -17,9 +17,59 @@ use Rattle.model.proofs.Cases.{by-leb, by-ltb, by-test}
 use Rattle.model.proofs.Content.{size-marks}
 use Rattle.model.proofs.PoolSound.{insert-sound, remove-sound, insert-pool-marks, remove-pool-marks}
 pub use Rattle.window.proofs.Orderly.{never}
-use Rattle.window.specs.Orders.{Asked, inserting, removing, accessing, ranking, selecting, quiet, unknown, in-range, placed, no-room, after, after-all, list-answer, list-after, or-else}
+use Rattle.window.specs.Orders.{Asked, asks, with-bit, with-zero, bit-value, inserting, removing, accessing, ranking, selecting, quiet, unknown, in-range, placed, no-room, after, after-all, list-answer, list-after, or-else}
 use Rattle.window.specs.Answer.{code}
 use Rattle.window.specs.declared.answer.Answer.the-variants.{Done}
+
+-- 1 for an insert, and 0 for any other order
+unfoldable pub inserting-count : Asked → ℕ
+inserting-count (inserting i b) = 1
+inserting-count (removing i) = 0
+inserting-count (accessing i) = 0
+inserting-count (ranking end b) = 0
+inserting-count (selecting k b) = 0
+inserting-count quiet = 0
+inserting-count unknown = 0
+
+pub not-inserting : {A : Type 0} (o : Asked) (i : ℕ) (b : Bool) → inserting-count o ≡ 0 → o ≡ inserting i b → A
+unfolding inserting-count
+not-inserting o i b z e = absurd (omega (arith, z, ap inserting-count e))
+
+-- an order that asks and changes nothing
+pub record Asks (n : ℕ) (o : Asked) : Type 0 where
+  pub number : 3 ≤ n
+  pub leaves : (p : Pool) → after o p ≡ p
+  pub no-insert : inserting-count o ≡ 0
+
+-- what three words ask: an insert, a remove, a question, or nothing that is known
+pub by-kind : {P : Type 0} (n x y : ℕ) → ((b : Bool) → n ≡ 1 → y ≡ bit-value b → asks n x y ≡ inserting x b → P)
+    → (n ≡ 2 → asks n x y ≡ removing x → P) → (Asks n (asks n x y) → P) → (asks n x y ≡ unknown → P) → P
+unfolding asks with-bit with-zero after inserting-count
+by-kind {P = P} n x y ins rem ask unk = kinds n x y ins rem ask unk
+  where
+    question : {n : ℕ} {o : Asked} → 3 ≤ n → ((p : Pool) → after o p ≡ p) → inserting-count o ≡ 0 → Asks n o
+    question late e z = record { number = late; leaves = e; no-insert = z }
+
+    kinds : (n x y : ℕ) → ((b : Bool) → n ≡ 1 → y ≡ bit-value b → asks n x y ≡ inserting x b → P)
+        → (n ≡ 2 → asks n x y ≡ removing x → P) → (Asks n (asks n x y) → P) → (asks n x y ≡ unknown → P) → P
+    kinds zero x y ins rem ask unk = unk refl
+    kinds (suc zero) x zero ins rem ask unk = ins false refl refl refl
+    kinds (suc zero) x (suc zero) ins rem ask unk = ins true refl refl refl
+    kinds (suc zero) x (suc (suc y)) ins rem ask unk = unk refl
+    kinds (suc (suc zero)) x zero ins rem ask unk = rem refl refl
+    kinds (suc (suc zero)) x (suc y) ins rem ask unk = unk refl
+    kinds (suc (suc (suc zero))) x zero ins rem ask unk = ask (question (omega arith) (λ p. refl) refl)
+    kinds (suc (suc (suc zero))) x (suc y) ins rem ask unk = unk refl
+    kinds (suc (suc (suc (suc zero)))) x zero ins rem ask unk = ask (question (omega arith) (λ p. refl) refl)
+    kinds (suc (suc (suc (suc zero)))) x (suc zero) ins rem ask unk = ask (question (omega arith) (λ p. refl) refl)
+    kinds (suc (suc (suc (suc zero)))) x (suc (suc y)) ins rem ask unk = unk refl
+    kinds (suc (suc (suc (suc (suc zero))))) x zero ins rem ask unk = ask (question (omega arith) (λ p. refl) refl)
+    kinds (suc (suc (suc (suc (suc zero))))) x (suc zero) ins rem ask unk = ask (question (omega arith) (λ p. refl) refl)
+    kinds (suc (suc (suc (suc (suc zero))))) x (suc (suc y)) ins rem ask unk = unk refl
+    kinds (suc (suc (suc (suc (suc (suc zero)))))) zero zero ins rem ask unk = ask (question (omega arith) (λ p. refl) refl)
+    kinds (suc (suc (suc (suc (suc (suc zero)))))) zero (suc y) ins rem ask unk = unk refl
+    kinds (suc (suc (suc (suc (suc (suc zero)))))) (suc x) y ins rem ask unk = unk refl
+    kinds (suc (suc (suc (suc (suc (suc (suc n))))))) x y ins rem ask unk = unk refl
 
 -- an insert has room or has none
 pub by-room : {P : Type 0} (i : ℕ) (b : Bool) (p : Pool) → (Pool.full i p ≡ true → Pool.insert i b p ≡ none → P) → ((q : Pool) → Pool.full i p ≡ false → Pool.insert i b p ≡ some q → P) → P

@@ -21,8 +21,13 @@ use Rattle.window.specs.Answer.{code}
 use Rattle.window.specs.Orders.{Asked, inserting, removing, accessing, ranking, selecting, quiet, unknown, in-range, placed, no-room, answer, after, list-answer}
 use Rattle.window.specs.declared.answer.Answer.{Answer}
 use Rattle.window.specs.declared.answer.Answer.the-variants.{Done, OutOfRange, NoZeroth, TooFew, Full, Malformed}
-use Rattle.demands.specs.Promises.{NoRoom}
 use Rattle.demands.proofs.OrderByOrder.{list-codes, by-room}
+
+-- an insert at place i finds no room: the place is in range, its leaf holds 127 marks, and fewer than two nodes are free
+pub record Roomless (i : ℕ) (p : Pool) : Type 0 where
+  pub in-range : i ≤ length (marks (p .tree))
+  pub leaf-full : length (leaf-at i (p .tree)) ≡ 127
+  pub few-free : length (p .free) < 2
 
 -- not carried out: nothing is changed
 pub refused-changes-nothing : (o : Asked) (p : Pool) → (code (answer o p) ≡ 0 → ⊥) → after o p ≡ p
@@ -76,19 +81,18 @@ unfolding answer no-room list-answer
 first-3 k b p h = ap placed (select-none b (suc k) (marks (p .tree)) h)
 
 -- 4: Full, exactly where an insert in range leads to a leaf of 127 marks and fewer than two nodes are free
-pub full-if : (n i : ℕ) (b : Bool) (p : Pool) → Sound n p → i ≤ length (marks (p .tree)) → length (leaf-at i (p .tree)) ≡ 127 → length (p .free) < 2
-    → answer (inserting i b) p ≡ Full
+pub full-if : (i : ℕ) (b : Bool) (p : Pool) → Roomless i p → answer (inserting i b) p ≡ Full
 unfolding answer no-room
-full-if n i b p s h leaf few =
-    let f = means-full i p leaf few in
-    by-leb i (length (marks (p .tree))) (λ t k. rw (answer, no-room, t, f)) (λ t k. absurd (omega arith))
+full-if i b p r =
+    let f = means-full i p (r .leaf-full) (r .few-free) in
+    by-leb i (length (marks (p .tree))) (λ t k. rw (answer, no-room, t, f)) (λ t k. absurd (omega (arith, r .in-range)))
 
 -- the list does not answer it
 list-not-full : (o : Asked) (xs : List Bool) → list-answer o xs ≡ Full → ⊥
 unfolding code
 list-not-full o xs e = list-codes o xs .0 (ap code e)
 
-pub full-insert : (n i : ℕ) (b : Bool) (p : Pool) → Sound n p → answer (inserting i b) p ≡ Full → NoRoom i p
+pub full-insert : (n i : ℕ) (b : Bool) (p : Pool) → Sound n p → answer (inserting i b) p ≡ Full → Roomless i p
 unfolding answer no-room list-answer code
 full-insert n i b p s e =
     by-leb i (length (marks (p .tree)))
@@ -97,7 +101,7 @@ full-insert n i b p s e =
     (λ f. let k = rw (answer, no-room, t, f) at e in absurd (list-not-full (inserting i b) (marks (p .tree)) k)))
     (λ t h. let k = rw (answer, no-room, t) at e in absurd (list-not-full (inserting i b) (marks (p .tree)) k))
 
-pub full-only-if : (n : ℕ) (o : Asked) (p : Pool) → Sound n p → answer o p ≡ Full → (i : ℕ) × (b : Bool) × (o ≡ inserting i b) × NoRoom i p
+pub full-only-if : (n : ℕ) (o : Asked) (p : Pool) → Sound n p → answer o p ≡ Full → (i : ℕ) × (b : Bool) × (o ≡ inserting i b) × Roomless i p
 unfolding answer no-room list-answer code
 full-only-if n (inserting i b) p s e = (i, b, refl, full-insert n i b p s e)
 full-only-if n (removing i) p s e = absurd (list-not-full (removing i) (marks (p .tree)) e)

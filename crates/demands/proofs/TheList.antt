@@ -1,24 +1,29 @@
 -- Demand 2. For a user: ask the window anything, and the answer is that of a plain list of bits; change it, and its marks are the list's. The one
 -- answer that a list would not give is Full, and then nothing has changed.
-use Prim.Native.Nat.{ℕ, zero, suc, _≤_, _<_}
+use Prim.Native.Nat.{ℕ, _%_, _≤_, _<_}
 use native.Mathlib.Omega.{arith}
 use mathlib.Core.Path.{_≡_, refl, sym, ap, ap₂, _∙_}
 use mathlib.Core.Bool.{Bool, true, false}
 use mathlib.Core.List.{List, [], _∷_}
 use mathlib.Core.Logic.{_⊎_, inl, inr}
 use mathlib.Core.Option.{Option, none, some}
-use lib.Dec.{leb, ltb}
+use lib.Dec.{eqb}
+use borrow.Author.Tests.{eqb-true, eqb-false}
 use lib.ListN.{length}
 use Rattle.model.specs.Marks as Marks
 use Rattle.model.specs.Pool.{Pool}
 use Rattle.model.specs.Tree.{marks}
 use Rattle.model.proofs.Cases.{by-test}
-use Rattle.window.specs.Answer.{code}
-use Rattle.window.specs.Orders.{Asked, inserting, removing, accessing, ranking, selecting, quiet, unknown, in-range, placed, no-room, answer, after, answers, after-all, list-answer, list-after, list-answers, list-after-all}
+use Rattle.window.specs.Answer.{code, value}
+use Rattle.window.specs.Calls.{order-count}
+use Rattle.window.specs.Orders.{Asked, asks, orders-of, no-room, answer, after, answers, after-all, answer-words, list-answer, list-after, list-answers}
 use Rattle.window.specs.declared.answer.Answer.{Answer}
-use Rattle.window.specs.declared.answer.Answer.the-variants.{Done, Full, LeafLacks}
-use Rattle.demands.specs.Following.{Follows, NoneFull}
-use Rattle.demands.proofs.OrderByOrder.{list-codes, after-full, after-marks}
+use Rattle.window.specs.declared.answer.Answer.the-variants.{Full}
+use Rattle.demands.specs.Following.{Follows, NoneFull, carried-out}
+use Rattle.demands.specs.History.{log}
+use Rattle.demands.proofs.OrderByOrder.{after-full, after-marks}
+use Rattle.demands.proofs.Reading.{tells, becomes}
+use Rattle.demands.proofs.Refusals.{refused-changes-nothing}
 
 -- an order that finds no room
 pub one-order-full : (o : Asked) (p : Pool) → no-room o p ≡ true → (answer o p ≡ Full) × (after o p ≡ p)
@@ -31,36 +36,67 @@ pub one-order : (o : Asked) (p : Pool) → no-room o p ≡ false
 unfolding answer
 one-order o p e = (rw (answer, e), after-marks o p e)
 
--- a whole list of orders
-pub the-list : (os : List Asked) (p : Pool) → Follows os (answers os p) (marks (p .tree)) (marks (after-all os p .tree))
-unfolding answers after-all
-the-list [] p = refl
-the-list (o ∷ os) p =
+-- what is answered 0 is carried out
+pub done-marks : (o : Asked) (p : Pool) → code (answer o p) ≡ 0 → marks (after o p .tree) ≡ list-after o (marks (p .tree))
+unfolding answer code
+done-marks o p e = by-test (no-room o p) (λ t. absurd (omega (arith, rw (answer, t) at e))) (λ t. one-order o p t .1)
+
+-- ---- a whole list of orders, in words
+
+-- every order has its answer
+pub log-length : (orders : List ℕ) (p : Pool) → length orders % 3 ≡ 0 → length (log orders (tells orders p)) ≡ order-count orders
+unfolding log orders-of answers answer-words
+log-length [] p h = refl
+log-length (n ∷ []) p h = absurd (omega arith)
+log-length (n ∷ x ∷ []) p h = absurd (omega arith)
+log-length (n ∷ x ∷ y ∷ orders) p h = omega (arith, log-length orders (after (asks n x y) p) (omega arith))
+
+pub follows : (orders : List ℕ) (p : Pool) → length orders % 3 ≡ 0
+    → Follows (log orders (tells orders p)) (marks (p .tree)) (marks (becomes orders p .tree))
+unfolding log orders-of answers after-all answer-words code value
+follows [] p h = refl
+follows (n ∷ []) p h = absurd (omega arith)
+follows (n ∷ x ∷ []) p h = absurd (omega arith)
+follows (n ∷ x ∷ y ∷ orders) p h =
+    let o = asks n x y in
+    let more = follows orders (after o p) (omega arith) in
     by-test (no-room o p)
     (λ e.
     let k = one-order-full o p e in
-    inr (k .0, rw (sym (ap (λ (q : Pool). marks (q .tree)) (k .1))) (the-list os (after o p))))
+    inr (record { code = ap code (k .0); value = ap value (k .0) }, rw (sym (ap (λ (q : Pool). marks (q .tree)) (k .1))) more))
     (λ e.
     let k = one-order o p e in
-    inl (k .0, rw (sym (k .1)) (the-list os (after o p))))
+    inl (record { code = ap code (k .0); value = ap value (k .0) }, rw (sym (k .1)) more))
 
--- a whole list of orders of which none is answered Full
-pub the-list-with-room : (os : List Asked) (p : Pool) → NoneFull (answers os p)
-    → (answers os p ≡ list-answers os (marks (p .tree))) × (marks (after-all os p .tree) ≡ list-after-all os (marks (p .tree)))
-unfolding answers after-all list-answers list-after-all
-the-list-with-room [] p h = (refl, refl)
-the-list-with-room (o ∷ os) p h =
+-- the marks afterwards are those of the list with the orders answered 0 carried out
+pub carried : (orders : List ℕ) (p : Pool) → length orders % 3 ≡ 0
+    → marks (becomes orders p .tree) ≡ carried-out (log orders (tells orders p)) (marks (p .tree))
+unfolding log orders-of answers after-all answer-words carried-out
+carried [] p h = refl
+carried (n ∷ []) p h = absurd (omega arith)
+carried (n ∷ x ∷ []) p h = absurd (omega arith)
+carried (n ∷ x ∷ y ∷ orders) p h =
+    let o = asks n x y in
+    let more = carried orders (after o p) (omega arith) in
+    by-test (eqb (code (answer o p)) 0)
+    (λ t. rw t (more ∙ ap (carried-out (log orders (tells orders (after o p)))) (done-marks o p (eqb-true (code (answer o p)) 0 t))))
+    (λ t. rw t
+    (more
+    ∙ ap (λ (q : Pool). carried-out (log orders (tells orders (after o p))) (marks (q .tree)))
+    (refused-changes-nothing o p (eqb-false (code (answer o p)) 0 t))))
+
+-- where no answer is 4, all that is told is what the list answers
+pub told-with-room : (orders : List ℕ) (p : Pool) → length orders % 3 ≡ 0 → NoneFull (log orders (tells orders p))
+    → tells orders p ≡ answer-words (list-answers (orders-of orders) (marks (p .tree)))
+unfolding log orders-of answers answer-words list-answers code
+told-with-room [] p h f = refl
+told-with-room (n ∷ []) p h f = absurd (omega arith)
+told-with-room (n ∷ x ∷ []) p h f = absurd (omega arith)
+told-with-room (n ∷ x ∷ y ∷ orders) p h f =
+    let o = asks n x y in
     by-test (no-room o p)
-    (λ e. absurd (h .0 (one-order-full o p e .0)))
+    (λ e. absurd (f .0 (ap code (one-order-full o p e .0))))
     (λ e.
     let k = one-order o p e in
-    let r = the-list-with-room os (after o p) (h .1) in
-    (ap₂ (λ (a : Answer) (rest : List Answer). a ∷ rest) (k .0) (rw (sym (k .1)) (r .0)), rw (sym (k .1)) (r .1)))
-
--- no answer says that a leaf lacks a mark
-pub never-eleven : (o : Asked) (p : Pool) → code (answer o p) ≡ 11 → ⊥
-unfolding answer code
-never-eleven o p e =
-    by-test (no-room o p)
-    (λ t. absurd (omega (arith, rw (answer, t) at e)))
-    (λ t. absurd (omega (arith, rw (answer, t) at e, list-codes o (marks (p .tree)) .1)))
+    let r = told-with-room orders (after o p) (omega arith) (f .1) in
+    rw (k .0) (ap (λ (ws : List ℕ). code (list-answer o (marks (p .tree))) ∷ value (list-answer o (marks (p .tree))) ∷ ws) (rw (sym (k .1)) r)))

@@ -1,6 +1,6 @@
 -- Demand 3, two pools. For a user: a small pool and a large one that are built from the same marks and given the same orders answer alike, order by
 -- order; or the first answer that differs is Full, from the smaller. The size of a pool is told by nothing else.
-use Prim.Native.Nat.{ℕ, zero, suc, _≤_, _<_}
+use Prim.Native.Nat.{ℕ, _%_, _≤_, _<_}
 use native.Mathlib.Omega.{arith}
 use mathlib.Core.Path.{_≡_, refl, sym, ap, _∙_}
 use mathlib.Core.Bool.{Bool, true, false}
@@ -15,17 +15,19 @@ use Rattle.model.specs.Tree.{marks}
 use Rattle.model.proofs.Cases.{by-leb, by-ltb, by-test}
 use Rattle.model.proofs.Content.{size-marks}
 use Rattle.model.proofs.TwoPools.{Wider, Steps, alike, both-full, one-full, build-wider, insert-wider, remove-wider}
-use Rattle.window.specs.Answer.{code}
-use Rattle.window.specs.Orders.{Asked, inserting, removing, accessing, ranking, selecting, quiet, unknown, in-range, no-room, answer, after, answers, list-answer}
+use Rattle.window.specs.Answer.{code, value}
+use Rattle.window.specs.Orders.{Asked, inserting, removing, accessing, ranking, selecting, quiet, unknown, in-range, no-room, asks, orders-of, answer, after, answers, answer-words, list-answer}
 use Rattle.window.specs.declared.answer.Answer.{Answer}
 use Rattle.window.specs.declared.answer.Answer.the-variants.{Done, Full}
 use Rattle.demands.specs.Following.{AgreeOrFull}
+use Rattle.demands.specs.History.{Entry, log}
 use Rattle.demands.proofs.OrderByOrder.{by-room}
+use Rattle.demands.proofs.Reading.{tells}
 
 -- what one order makes of both: they agree and are as they were to each other, or the smaller is full and the larger is not
 pub data Both (p q : Pool) (a b : Answer) : Type 0 where
   agree : a ≡ b → Wider p q → Both p q a b
-  smaller-full : a ≡ Full → (b ≡ Full → ⊥) → Both p q a b
+  smaller-full : a ≡ Full → (code b ≡ 4 → ⊥) → Both p q a b
 
 -- an insert in range, by what the model's insert makes of the pool
 in-room : (i : ℕ) (b : Bool) (p q : Pool) → leb i (length (marks (p .tree))) ≡ true → Pool.insert i b p ≡ some q
@@ -49,13 +51,10 @@ out-of-range : (i : ℕ) (b : Bool) (p : Pool) → leb i (length (marks (p .tree
 unfolding answer no-room after list-answer
 out-of-range i b p t = (rw (answer, no-room, t) (ap (λ (c : Bool). in-range c (Done 0)) t), rw (after, t))
 
-done-not-full : Done 0 ≡ Full → ⊥
-unfolding code
-done-not-full e = omega (arith, ap code e)
-
 inserts : (i : ℕ) (b : Bool) (p q : Pool) → Wider p q
     → leb i (length (marks (p .tree))) ≡ true → leb i (length (marks (q .tree))) ≡ true → Steps (Pool.insert i b p) (Pool.insert i b q)
     → Both (after (inserting i b) p) (after (inserting i b) q) (answer (inserting i b) p) (answer (inserting i b) q)
+unfolding code
 inserts i b p q w t u (alike p′ q′ e f v) =
     let j = in-room i b p p′ t e in
     let k = in-room i b q q′ u f in
@@ -67,7 +66,7 @@ inserts i b p q w t u (both-full e f) =
 inserts i b p q w t u (one-full q′ e f) =
     let j = no-more-room i b p t e in
     let k = in-room i b q q′ u f in
-    smaller-full (j .0) (λ z. done-not-full (sym (k .0) ∙ z))
+    smaller-full (j .0) (λ z. omega (arith, ap code (k .0)))
 
 same-marks : (p q : Pool) → Wider p q → marks (q .tree) ≡ marks (p .tree)
 same-marks p q w = ap marks (w .tree)
@@ -96,17 +95,26 @@ both-orders quiet p q w = agree (ap (list-answer quiet) (sym (same-marks p q w))
 both-orders unknown p q w = agree refl w
 
 -- the rest follows where they agree
-next : {p q : Pool} {a b : Answer} (rest rest′ : List Answer) → (Wider p q → AgreeOrFull rest rest′) → Both p q a b → AgreeOrFull (a ∷ rest) (b ∷ rest′)
-next rest rest′ go (agree e v) = inl (e, go v)
-next rest rest′ go (smaller-full e f) = inr (e, f)
+next : (n x y : ℕ) {p q : Pool} {a b : Answer} (es fs : List Entry) → (Wider p q → AgreeOrFull es fs) → Both p q a b
+    → AgreeOrFull (record { number = n; second = x; third = y; code = code a; value = value a } ∷ es)
+    (record { number = n; second = x; third = y; code = code b; value = value b } ∷ fs)
+unfolding code value
+next n x y es fs go (agree e v) = inl (ap code e, ap value e, go v)
+next n x y es fs go (smaller-full e f) = inr (record { code = ap code e; value = ap value e }, f)
 
 -- any orders
-pub wider-answers : (os : List Asked) (p q : Pool) → Wider p q → AgreeOrFull (answers os p) (answers os q)
-unfolding answers
-wider-answers [] p q w = tt
-wider-answers (o ∷ os) p q w = next (answers os (after o p)) (answers os (after o q)) (wider-answers os (after o p) (after o q)) (both-orders o p q w)
+pub wider-answers : (orders : List ℕ) (p q : Pool) → length orders % 3 ≡ 0 → Wider p q
+    → AgreeOrFull (log orders (tells orders p)) (log orders (tells orders q))
+unfolding log orders-of answers answer-words
+wider-answers [] p q h w = tt
+wider-answers (n ∷ []) p q h w = absurd (omega arith)
+wider-answers (n ∷ x ∷ []) p q h w = absurd (omega arith)
+wider-answers (n ∷ x ∷ y ∷ orders) p q h w =
+    let o = asks n x y in
+    next n x y (log orders (tells orders (after o p))) (log orders (tells orders (after o q)))
+    (wider-answers orders (after o p) (after o q) (omega arith)) (both-orders o p q w)
 
 -- any build that both accept, and any orders
-pub two-pools : (n m : ℕ) (xs : List Bool) (p q : Pool) (os : List Asked) → n ≤ m → Pool.build n xs ≡ some p → Pool.build m xs ≡ some q
-    → AgreeOrFull (answers os p) (answers os q)
-two-pools n m xs p q os h e f = wider-answers os p q (build-wider n m xs p q h e f)
+pub two-pools : (n m : ℕ) (xs : List Bool) (p q : Pool) (orders : List ℕ) → length orders % 3 ≡ 0 → n ≤ m
+    → Pool.build n xs ≡ some p → Pool.build m xs ≡ some q → AgreeOrFull (log orders (tells orders p)) (log orders (tells orders q))
+two-pools n m xs p q orders whole h e f = wider-answers orders p q whole (build-wider n m xs p q h e f)

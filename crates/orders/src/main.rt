@@ -1,8 +1,10 @@
 // The order program: plays a script from standard input on one pool, and writes its answers to standard output.
 //
-// Proved: the library's `script::play`, which writes each line. Only run: that its bytes are handed on.
+// Proved: the library's `script::play`, which writes each line, and that the loop goes on with the place and the nodes that a
+// line leaves. Only run: that the bytes are read and handed on.
 ghost use Prim.Native.Nat.{_≤_};
 ghost use lib.ListN.{length};
+ghost use Rattle.orders.specs.Loop.{Plays};
 use script::play;
 
 const MOST_WORDS: usize = 6144;
@@ -20,7 +22,9 @@ fn write(bytes: &[u8], count: usize) -> bool
 }
 
 // Plays the lines of an input one after the other, and writes what each prints, until nobody reads any more.
-fn play_all(input: &[u8], pool: &mut [u64; 6144], out: &mut [u8; 17408]) {
+fn play_all(input: &[u8], pool: &mut [u64; 6144], out: &mut [u8; 17408])
+    ensures { λ _. ⌜ Plays (now (input .entry)) (now (pool .entry)) (now (pool .exit)) ⌝ }
+{
     let mut at = 0;
     let mut nodes = 0;
     while at < input.len() {

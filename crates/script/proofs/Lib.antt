@@ -4,4 +4,5 @@ pub mod Ends
 pub mod Letters
 pub mod Outcomes
 pub mod Pinned
+pub mod Refused
 pub mod Whole
