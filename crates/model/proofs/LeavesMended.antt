@@ -106,7 +106,9 @@ module _ (least n : ℕ) (pos : 1 ≤ least) (low : least ≤ leaf-least) where
       let m = size-marks (t .tree) in
       mend-left-cases (λ (u : Trimmed). Sized least (u .tree)) n t r
       (λ small lean. renumber-sized least n (put-before (marks (t .tree)) r) (put-before-sized least (marks (t .tree)) r (omega arith) q))
-      (λ small rich. rebalance-sized least n (put-after (first-mark r) (t .tree)) (drop-first r) (lent-after leaf-least (first-mark r) (t .tree) (omega arith) (first-mark-one r (omega arith)) small p) (drop-first-sized least r low rich q))
+      (λ small rich. rebalance-sized least n (put-after (first-mark r) (t .tree)) (drop-first r)
+      (lent-after leaf-least (first-mark r) (t .tree) (omega arith) (first-mark-one r (omega arith)) small p)
+      (drop-first-sized least r low (omega arith) q))
       (λ large. rebalance-sized least n (t .tree) r (short-sized leaf-least (t .tree) (omega arith) large p) q)
 
   -- the mirror image
@@ -115,7 +117,9 @@ module _ (least n : ℕ) (pos : 1 ≤ least) (low : least ≤ leaf-least) where
       let m = size-marks (t .tree) in
       mend-right-cases (λ (u : Trimmed). Sized least (u .tree)) n l t
       (λ small lean. renumber-sized least n (put-after (marks (t .tree)) l) (sized-weaken least leaf-least (put-after (marks (t .tree)) l) low (put-after-sized leaf-least (marks (t .tree)) l (omega arith) p)))
-      (λ small rich. rebalance-sized least n (drop-last l) (put-before (last-mark l) (t .tree)) (drop-last-sized leaf-least l rich p) (lent-before least (last-mark l) (t .tree) pos (last-mark-one l (omega arith)) small q))
+      (λ small rich. rebalance-sized least n (drop-last l) (put-before (last-mark l) (t .tree))
+      (drop-last-sized leaf-least l (omega arith) p)
+      (lent-before least (last-mark l) (t .tree) pos (last-mark-one l (omega arith)) small q))
       (λ large. rebalance-sized least n l (t .tree) p (short-sized least (t .tree) low large q))
 
 -- a remove leaves a tree as full as it was, but a single leaf may be one mark short

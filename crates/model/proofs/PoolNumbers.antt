@@ -36,7 +36,7 @@ insert-rearranged i b p q h =
     (λ _ _ e. let z : _≡_ {A = ℕ} 0 1 = cc in absurd (omega arith))
     (λ split two e w.
     let z : q ≡ record { tree = Edit.insert i b (p .free) (p .tree); free = drop 2 (p .free) } = cc in
-    simp (z, all-weight, insert-weight w i b (p .free) (p .tree) h, split) (omega (arith, first-two w (p .free) two)))
+    simp (z, all-weight, insert-weight w i b (p .free) (p .tree) h, split) (omega (arith, first-two w (p .free) (omega arith))))
     (λ room e w.
     let z : q ≡ record { tree = Edit.insert i b (p .free) (p .tree); free = p .free } = cc in
     simp (z, all-weight, insert-weight w i b (p .free) (p .tree) h, room) (omega arith))
