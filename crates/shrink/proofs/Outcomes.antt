@@ -150,8 +150,8 @@ module _ {w : List ℕ} {n levels end head : ℕ} {f : Fork} (l r : Tree) (free 
   pub over-left : Over w n levels f l r
   over-left = rw s (q .over)
 
-  pub merge-left-ready : length (first-leaf r) ≤ 33 → ToMergeLeft w n levels f l r
-  merge-left-ready lean = record { over = over-left; flat = q .flat; room = let low = q .low in omega arith }
+  pub merge-left-ready : length (first-leaf r) ≤ 95 → ToMergeLeft w n levels f l r
+  merge-left-ready few = record { over = over-left; flat = q .flat; room = let low = q .low in omega arith }
 
   pub mend-left-joined : {v w′ : List ℕ} {head′ : ℕ} → length (first-leaf r) ≤ 33 → Edited w v (n ∷ numbers r) (renumber n (put-before (marks l) r))
       → (head′ ≡ f .right) × (w′ ≡ put (put v (f .left) (free-cell head)) (f .right) (free-cell (f .left)))
@@ -193,8 +193,8 @@ module _ {w : List ℕ} {n levels end head : ℕ} {f : Fork} (l r : Tree) (free 
   pub over-right : Over w n levels f l r
   over-right = rw s (q .over)
 
-  pub merge-right-ready : length (last-leaf l) ≤ 33 → ToMergeRight w n levels f l r
-  merge-right-ready lean = record { over = over-right; flat = q .flat; room = let low = q .low in omega arith }
+  pub merge-right-ready : length (last-leaf l) ≤ 95 → ToMergeRight w n levels f l r
+  merge-right-ready few = record { over = over-right; flat = q .flat; room = let low = q .low in omega arith }
 
   pub mend-right-joined : {v w′ : List ℕ} {head′ : ℕ} → length (last-leaf l) ≤ 33 → Edited w v (n ∷ numbers l) (renumber n (put-after (marks r) l))
       → (head′ ≡ f .right) × (w′ ≡ put (put v (f .left) (free-cell head)) (f .right) (free-cell (f .left)))

@@ -16,7 +16,7 @@ abbrev pub balance-of : Tree → ℕ
 balance-of (leaf n xs) = 2
 balance-of (fork n l r) = (height r + 2) - height l
 
-pub balance-small : (t : Tree) → Balanced t → balance-of t ≤ 4
+pub balance-small : (t : Tree) → Balanced t → balance-of t ≤ 3
 balance-small (leaf n xs) h = omega arith
 balance-small (fork n l r) h = omega arith
 

@@ -59,8 +59,8 @@ merge-left-requires c κs =
     let size = c .before .before in
     let f = size .before .before .before in
     let g = given (f .before .before .before) in
-    let lean : length (first-leaf (g .r)) ≤ 33 = omega (arith, next size g, c .before .if1 .taken) in
-    (g .l, g .r, merge-left-ready (g .l) (g .r) (g .free) (g .stands) (read f g) lean)
+    let room : length (first-leaf (g .r)) ≤ 95 = omega (arith, next size g, c .before .if1 .taken) in
+    (g .l, g .r, merge-left-ready (g .l) (g .r) (g .free) (g .stands) (read f g) room)
 
 returns : tie.Need-returns
 returns c = λ l r free end q e.
@@ -70,7 +70,7 @@ returns c = λ l r free end q e.
     let g : Given (f .before .before .before) = record { l = l; r = r; free = free; end = end; stands = q; total = e } in
     let lean : length (first-leaf r) ≤ 33 = omega (arith, next size g, merge .before .before .if1 .taken) in
     let s = read f g in
-    mend-left-joined l r free q s lean (merge .merge-left .ensures l r (merge-left-ready l r free q s lean))
+    mend-left-joined l r free q s lean (merge .merge-left .ensures l r (merge-left-ready l r free q s (omega arith)))
     (c .before .before .free-children .ensures)
 
 borrow-first-requires : tie.Need-borrow-first-requires

@@ -51,8 +51,8 @@ merge-right-requires c κs =
     let size = c .before .before in
     let f = size .before .before in
     let g = given (f .before .before .before) in
-    let lean : length (last-leaf (g .l)) ≤ 33 = omega (arith, next size g, c .before .if1 .taken) in
-    (g .l, g .r, merge-right-ready (g .l) (g .r) (g .free) (g .stands) (read f g) lean)
+    let room : length (last-leaf (g .l)) ≤ 95 = omega (arith, next size g, c .before .if1 .taken) in
+    (g .l, g .r, merge-right-ready (g .l) (g .r) (g .free) (g .stands) (read f g) room)
 
 returns : tie.Need-returns
 returns c = λ l r free end q.
@@ -62,7 +62,7 @@ returns c = λ l r free end q.
     let g : Given (f .before .before .before) = record { l = l; r = r; free = free; end = end; stands = q } in
     let lean : length (last-leaf l) ≤ 33 = omega (arith, next size g, merge .before .before .if1 .taken) in
     let s = read f g in
-    mend-right-joined l r free q s lean (merge .merge-right .ensures l r (merge-right-ready l r free q s lean))
+    mend-right-joined l r free q s lean (merge .merge-right .ensures l r (merge-right-ready l r free q s (omega arith)))
     (c .before .before .free-children .ensures)
 
 borrow-last-requires : tie.Need-borrow-last-requires

@@ -1,4 +1,5 @@
 -- The fork at n is the one that loses the mark. Assumes nothing.
+use native.Mathlib.Omega.{arith}
 use borrow.Author.Needs.{needs}
 use mathlib.Core.Path.{sym, ap, _∙_}
 use denote.Ref.{now}
@@ -9,7 +10,7 @@ use Rattle.shrink.proofs.mending.uncount.Statement.{statement}
 use Rattle.shrink.proofs.mending.uncount.Tie as tie
 
 less-left-requires : tie.Need-less-left-requires
-less-left-requires c κs = let p = c .before .before .pre in (p .f, p .says, p .counted .0, p .counted .1)
+less-left-requires c κs = let p = c .before .before .pre in (p .f, p .says, omega (arith, p .counted .0), p .counted .1)
 
 returns : tie.Need-returns
 returns c =

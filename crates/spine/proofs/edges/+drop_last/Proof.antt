@@ -34,7 +34,9 @@ sub-remove : (t : ℕ) → drop-last-lts.Need-sub-remove (claims t) (drop-last-a
 sub-remove t c = let p = c .before .before .before .before .before .before .before .pre .1 in last-some (p .0) (p .1)
 
 sub-bit-at : (t : ℕ) → drop-last-lts.Need-sub-bit-at (claims t) (drop-last-at t) drop-last.Post
-sub-bit-at t c = let p = c .before .before .before .before .before .before .before .before .before .before .before .pre .1 in last-some (p .0) (p .1)
+sub-bit-at t c =
+    let p = c .before .before .before .before .before .before .before .before .before .before .before .pre .1 in
+    omega (arith, last-some (p .0) (p .1))
 
 sub-drop-last : (t : ℕ) → drop-last-lts.Need-sub-drop-last (claims t) (drop-last-at t) drop-last.Post
 sub-drop-last t c = let p = c .before .before .before .before .before .before .before .before .pre .1 in omega (arith, p .1 .total, left-within (p .0) (p .1 .tree .rooted) (sym (c .before .before .before .before .before .node-at .ensures) ∙ c .before .before .before .fork .given .1))

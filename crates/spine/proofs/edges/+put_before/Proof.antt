@@ -42,7 +42,11 @@ put-before-requires t c κs =
     (omega (arith, c .before .before .before .before .before .before .before .pre .0, level (p .0) (p .2 .tree .rooted) read), before-below (p .0) (p .1) (p .2) read (p .3))
 
 more-left-requires : (t : ℕ) → put-before-lts.Need-more-left-requires (claims t) (put-before-at t) put-before.Post
-more-left-requires t c κs = let p = c .before .before .before .before .before .before .before .before .before .before .before .pre .1 in before-fits (p .0) (p .1) (p .2) (sym (c .before .before .before .before .before .before .before .before .node-at .ensures) ∙ c .before .before .before .before .before .before .fork .given .1) (p .3)
+more-left-requires t c κs =
+    let p = c .before .before .before .before .before .before .before .before .before .before .before .pre .1 in
+    let fork = c .before .before .before .before .before .before in
+    let fits = before-fits (p .0) (p .1) (p .2) (sym (fork .before .before .node-at .ensures) ∙ fork .fork .given .1) (p .3) in
+    (fits .0, omega (arith, fits .1))
 
 returns : (t : ℕ) → put-before-lts.Need-returns (claims t) (put-before-at t) put-before.Post
 returns t c = λ u ys q. before-at-leaf u ys q (sym (c .before .before .before .before .before .before .before .before .node-at .ensures) ∙ c .before .before .before .before .before .before .old .given .1) (c .before .before .before .join .ensures) (c .before .before .set-leaf .ensures)

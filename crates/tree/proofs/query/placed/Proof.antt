@@ -1,4 +1,6 @@
 -- The place counts the marks before its leaf, and the test tells whether it is one of a mark. Assumes nothing.
+use Prim.Native.Nat.{_+_}
+use native.Mathlib.Omega.{arith}
 use borrow.Author.Needs.{needs}
 use borrow.Author.Tests.{lt-ltb, le-ltb}
 use Rattle.tree.specs.Query.{found-at}
@@ -12,7 +14,10 @@ add-found : tie.Need-add-found
 add-found c = record { fits = rw (c .before .place .given .1) at (c .before .before .before .pre) }
 
 returns : tie.Need-returns
-returns c = rw (c .before .before .place .given .1, found-at, lt-ltb _ _ (c .if1 .taken))
+returns c =
+    let a = c .before .before .before .before .args in
+    let at = c .before .before .place .given in
+    rw (at .1, found-at, lt-ltb (a .before + at .0 .0) (a .length) (omega (arith, c .if1 .taken)))
 
 enum-told : tie.Need-enum-told
 enum-told c = search needs

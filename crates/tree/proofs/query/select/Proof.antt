@@ -64,8 +64,13 @@ wanted-requires c κs =
 
 add-before : tie.Need-add-before Inv-loop μ-loop
 add-before c =
-    let p = c .before .before .before .before .before .before .before .before .before .pre in
-    omega (arith, on-fork (c .before .before .before .before .before .before .before .loop .inv (p .0) (p .1) (p .2)) (sym (c .before .before .before .before .before .before .leaf-or-fork .ensures) ∙ c .before .before .before .before .fork .given .1) (λ m u v e q. select-before m u v _ e q), picked-most (c .either2 .ensures), size-bound 0 (p .0) 12 (p .1 .sized) (p .1 .deep))
+    let fork = c .before .before .before .before in
+    let p = fork .before .before .before .before .before .pre in
+    let here = fork .before .before .before .loop .inv (p .0) (p .1) (p .2) in
+    let read = sym (fork .before .before .leaf-or-fork .ensures) ∙ fork .fork .given .1 in
+    let within = on-fork here read (λ m u v e q. select-before m u v _ e q) in
+    let strikes = on-fork here read (λ m u v e q. select-strikes m u v _ e q) in
+    omega (arith, within, strikes, picked-most (c .either2 .ensures), size-bound 0 (p .0) 12 (p .1 .sized) (p .1 .deep))
 
 loop-less : tie.Need-loop-less Inv-loop μ-loop
 loop-less c = omega (arith, sub-levels (c .before .before .before .before))

@@ -24,8 +24,10 @@ small c t k = omega (arith, balance-is c t k, balance-small t (k .balanced))
 
 leans : (c : tie.Then1) (t : Tree) → Given (c .before .before .before .before .before) t → balance-of t ≡ 3
 leans c t k =
-    sym (balance-is (c .before .before) t k)
-    ∙ equals (c .before .signed .result) (pos 1) 3 (c .before .signed .ensures) (record { told = omega arith }) (small (c .before .before) t k) (omega arith) (c .if1 .taken)
+    let signed = c .before .signed in
+    let few = small (c .before .before) t k in
+    let told = equals (signed .result) (pos 1) 3 (signed .ensures) (record { told = omega arith }) few (omega arith) (c .if1 .taken) in
+    omega (arith, told, balance-is (c .before .before) t k, balance-small t (k .balanced))
 
 signed-requires : tie.Need-signed-requires
 signed-requires c κs = let p = c .before .before .before .pre in small c (p .0) (p .1)
