@@ -135,17 +135,7 @@ impl Random {
         let most = length + orders.iter().filter(|order| order[0] == INSERT).count() as u64;
         let nodes = (2 * (most / 33 + 2) as usize).max(need(length as usize)).min(1023);
         let room = 2 * most.div_ceil(128) as usize;
-        Request {
-            size: 6 * nodes + 6,
-            fill: 0,
-            words,
-            length,
-            orders,
-            room,
-            at: Request::NOWHERE,
-            word: 0,
-            shown: 0,
-        }
+        Request { size: 6 * nodes + 6, fill: 0, words, length, orders, room, at: Request::NOWHERE, word: 0, shown: 0 }
     }
 }
 

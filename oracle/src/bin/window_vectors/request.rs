@@ -56,8 +56,14 @@ impl Answer {
     pub fn part(&self, request: &Request, place: usize) -> String {
         let asked = 8 + 2 * self.replies.len();
         match place {
-            0..8 => format!("{} of {}", ["the code", "the value"][place % 2], ["build", "run", "check", "values"][place / 2]),
-            _ if place < asked => format!("the answer to order {}, {:?}", (place - 8) / 2, request.orders[(place - 8) / 2]),
+            0..8 => format!(
+                "{} of {}",
+                ["the code", "the value"][place % 2],
+                ["build", "run", "check", "values"][place / 2]
+            ),
+            _ if place < asked => {
+                format!("the answer to order {}, {:?}", (place - 8) / 2, request.orders[(place - 8) / 2])
+            }
             _ if place < asked + self.out.len() => format!("word {} of the output", place - asked),
             _ => format!("word {} of the pool", place - asked - self.out.len()),
         }
