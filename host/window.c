@@ -7,12 +7,14 @@
 
 #define MOST_NODES 1023
 #define POOL_WORDS SZ_POOL_WORDS(MOST_NODES)
+#define LENT_WORDS (POOL_WORDS + 18) /* more words than the greatest pool has */
 #define MARK_WORDS 512
+#define OUT_WORDS (MARK_WORDS + 64)
 #define LIST 4096
 #define ORDERS 200
 #define SPARE 0x5a5a5a5a5a5a5a5aULL
 
-static uint64_t pool[POOL_WORDS], before[POOL_WORDS], marks[MARK_WORDS], out[MARK_WORDS + 2], orders[3 * ORDERS];
+static uint64_t pool[LENT_WORDS], before[LENT_WORDS], marks[MARK_WORDS], out[OUT_WORDS], orders[3 * ORDERS];
 static unsigned char list[LIST];
 static uint64_t listed, state = 1;
 static unsigned asked, wrong;
@@ -50,38 +52,58 @@ static void spoil(uint64_t *words, size_t count) {
         words[i] = SPARE;
 }
 
+/* Words that were spoiled before a call and that it is not to write. */
+static void untouched(const char *what, const uint64_t *words, size_t count) {
+    asked++;
+    for (size_t i = 0; i < count; i++)
+        if (words[i] != SPARE) {
+            wrong++;
+            fprintf(stderr, "%s: word %zu was written\n", what, i);
+            return;
+        }
+}
+
 /* A refusal leaves every word as it was. */
 static void refused(const char *what, sz_answer got, uint64_t code) {
     holds(what, got, code, 0);
-    same(what, pool, before, POOL_WORDS);
+    same(what, pool, before, LENT_WORDS);
+}
+
+/* The same of the output, which was spoiled before. */
+static void refused_whole(const char *what, sz_answer got, uint64_t code) {
+    refused(what, got, code);
+    untouched(what, out, OUT_WORDS);
+}
+
+static void order(size_t i, uint64_t number, uint64_t second, uint64_t third) {
+    orders[3 * i] = number;
+    orders[3 * i + 1] = second;
+    orders[3 * i + 2] = third;
 }
 
 static uint64_t words_for(uint64_t length) {
     return (length + 127) / 128 * 2;
 }
 
-/* Built, sound, and read back: the marks, zeros after them, and later words as they were. */
-static void round_trip(uint64_t nodes, uint64_t length) {
+/* Built, sound, and read back, into as many words as are needed or into more: the marks, zeros after them, and later words as they were. */
+static void round_trip(uint64_t nodes, uint64_t length, int longer) {
     size_t words = SZ_POOL_WORDS(nodes), count = words_for(length);
-    spoil(pool, POOL_WORDS);
+    spoil(pool, LENT_WORDS);
     holds("build", sz_build(pool, words, marks, MARK_WORDS, length), SZ_DONE, length);
-    if (words < POOL_WORDS)
-        is("the word after the pool", pool[words], SPARE);
+    untouched("the words after the pool", pool + words, LENT_WORDS - words);
     holds("check", sz_check(pool, words), SZ_DONE, length);
-    spoil(out, MARK_WORDS + 2);
+    spoil(out, OUT_WORDS);
     memcpy(before, pool, sizeof pool);
-    if (count > 0) {
-        holds("values, too short", sz_values(pool, words, out, count - 1), SZ_SHORT_OUTPUT, 0);
-        is("values, too short: the output", out[0], SPARE);
-    }
-    holds("values", sz_values(pool, words, out, count + 1), SZ_DONE, count);
+    if (count > 0)
+        refused_whole("values, too short", sz_values(pool, words, out, count - 1), SZ_SHORT_OUTPUT);
+    holds("values", sz_values(pool, words, out, longer ? OUT_WORDS : count), SZ_DONE, count);
     for (uint64_t i = 0; i < count; i++) {
         uint64_t left = length > 64 * i ? length - 64 * i : 0;
         uint64_t kept = left >= 64 ? ~0ULL : (1ULL << left) - 1;
         is("a word of values", out[i], marks[i] & kept);
     }
-    is("the word after values", out[count], SPARE);
-    same("values: the pool", pool, before, POOL_WORDS);
+    untouched("the words after values", out + count, OUT_WORDS - count);
+    same("values: the pool", pool, before, LENT_WORDS);
 }
 
 /* The shapes of the reference cases: 64 bits, 65 bits, and five leaves. */
@@ -91,7 +113,7 @@ static void shapes(void) {
     is("64 bits: the root", pool[words - 6], 0);
     is("64 bits: one leaf", pool[0], 1);
     is("64 bits: free", pool[words - 3], 8);
-    spoil(pool, POOL_WORDS);
+    spoil(pool, LENT_WORDS);
     memcpy(before, pool, sizeof pool);
     refused("65 bits in two nodes", sz_build(pool, SZ_POOL_WORDS(2), marks, MARK_WORDS, 65), SZ_FULL);
     holds("65 bits in three nodes", sz_build(pool, SZ_POOL_WORDS(3), marks, MARK_WORDS, 65), SZ_DONE, 65);
@@ -109,8 +131,12 @@ static void shapes(void) {
 /* Each damage by itself is found. Only a leaf's marks may be others and the pool still be sound, where no count tells of them. */
 static void damages(void) {
     size_t words = SZ_POOL_WORDS(9);
-    spoil(pool, POOL_WORDS);
+    spoil(pool, LENT_WORDS);
+    spoil(out, OUT_WORDS);
     sz_build(pool, words, marks, MARK_WORDS, 300);
+    order(0, SZ_INSERT, 0, 1);
+    order(1, SZ_REMOVE, 0, 0);
+    order(2, SZ_RANK, 300, 1);
     for (size_t at = 0; at < words; at++) {
         uint64_t kept = pool[at];
         int a_mark = at < words - 6 && pool[at / 6 * 6] == 1 && at % 6 == 1;
@@ -118,25 +144,54 @@ static void damages(void) {
         memcpy(before, pool, sizeof pool);
         if (sz_check(pool, words).code != SZ_DONE || !a_mark) {
             refused("check, a word changed", sz_check(pool, words), SZ_NOT_SOUND);
-            refused("values, a word changed", sz_values(pool, words, out, MARK_WORDS), SZ_NOT_SOUND);
+            refused_whole("values, a word changed", sz_values(pool, words, out, OUT_WORDS), SZ_NOT_SOUND);
+            refused_whole("run, a word changed", sz_run(pool, words, orders, 9, out, 6), SZ_NOT_SOUND);
+            refused_whole("run, a word changed, and more output", sz_run(pool, words, orders, 9, out, OUT_WORDS), SZ_NOT_SOUND);
         }
         pool[at] = kept;
     }
     holds("the damage mended", sz_check(pool, words), SZ_DONE, 300);
     /* a node that stands twice, and a cycle */
     pool[5 * 6 + 1] = pool[5 * 6 + 2];
-    holds("a node twice", sz_check(pool, words), SZ_NOT_SOUND, 0);
+    memcpy(before, pool, sizeof pool);
+    refused("a node twice", sz_check(pool, words), SZ_NOT_SOUND);
+    refused_whole("run, a node twice", sz_run(pool, words, orders, 9, out, OUT_WORDS), SZ_NOT_SOUND);
     pool[5 * 6 + 1] = 8;
-    holds("a cycle", sz_check(pool, words), SZ_NOT_SOUND, 0);
+    memcpy(before, pool, sizeof pool);
+    refused("a cycle", sz_check(pool, words), SZ_NOT_SOUND);
+    refused_whole("values, a cycle", sz_values(pool, words, out, OUT_WORDS), SZ_NOT_SOUND);
+    refused_whole("run, a cycle", sz_run(pool, words, orders, 9, out, OUT_WORDS), SZ_NOT_SOUND);
+}
+
+/* A pool that stands, lent with words too many behind it: with a number that no pool has it is of a wrong size, and with one that a greater pool
+ * has it is damaged, as its trailer is not at the end. No word is changed. */
+static void lent_too_many(uint64_t nodes, uint64_t length) {
+    size_t words = SZ_POOL_WORDS(nodes);
+    spoil(pool, LENT_WORDS);
+    spoil(out, OUT_WORDS);
+    sz_build(pool, words, marks, MARK_WORDS, length);
+    memcpy(before, pool, sizeof pool);
+    for (size_t more = words + 1; more <= words + 18; more++) {
+        uint64_t code = more % 6 != 0 || more > POOL_WORDS ? SZ_WRONG_SIZE : SZ_NOT_SOUND;
+        refused("check, too many words", sz_check(pool, more), code);
+        refused_whole("values, too many words", sz_values(pool, more, out, OUT_WORDS), code);
+        refused_whole("run, too many words", sz_run(pool, more, orders, 9, out, OUT_WORDS), code);
+        if (code == SZ_WRONG_SIZE)
+            refused("build, too many words", sz_build(pool, more, marks, MARK_WORDS, length), SZ_WRONG_SIZE);
+    }
+    holds("check, as many words as it has", sz_check(pool, words), SZ_DONE, length);
 }
 
 static void sizes(void) {
-    spoil(pool, POOL_WORDS);
+    spoil(pool, LENT_WORDS);
+    spoil(out, OUT_WORDS);
     memcpy(before, pool, sizeof pool);
-    for (size_t words = 0; words <= POOL_WORDS; words++)
-        if (words < 12 || words % 6 != 0) {
+    for (size_t words = 0; words <= LENT_WORDS; words++)
+        if (words < 12 || words % 6 != 0 || words > POOL_WORDS) {
             refused("check, wrong size", sz_check(pool, words), SZ_WRONG_SIZE);
             refused("build, wrong size", sz_build(pool, words, marks, MARK_WORDS, 1), SZ_WRONG_SIZE);
+            refused_whole("values, wrong size", sz_values(pool, words, out, OUT_WORDS), SZ_WRONG_SIZE);
+            refused_whole("run, wrong size", sz_run(pool, words, orders, 3, out, OUT_WORDS), SZ_WRONG_SIZE);
         }
     refused("marks that are not given", sz_build(pool, POOL_WORDS, marks, 2, 129), SZ_TOO_LONG);
     refused("a length of all ones", sz_build(pool, POOL_WORDS, marks, MARK_WORDS, ~0ULL), SZ_TOO_LONG);
@@ -229,23 +284,16 @@ static sz_answer list_answer(const uint64_t *order) {
     }
 }
 
-static void order(size_t i, uint64_t number, uint64_t second, uint64_t third) {
-    orders[3 * i] = number;
-    orders[3 * i + 1] = second;
-    orders[3 * i + 2] = third;
-}
-
 static void answered(const char *what, size_t i, uint64_t code, uint64_t value) {
     holds(what, answer(out[2 * i], out[2 * i + 1]), code, value);
 }
 
-/* Serves so many of the orders, with two words of output too many. */
+/* Serves so many of the orders, with words of output too many. */
 static void run(const char *what, size_t words, size_t count) {
-    spoil(out, MARK_WORDS + 2);
-    holds(what, sz_run(pool, words, orders, 3 * count, out, 2 * count + 2), SZ_DONE, count);
-    is("the word after the answers", out[2 * count], SPARE);
-    if (words < POOL_WORDS)
-        is("the word after the pool", pool[words], SPARE);
+    spoil(out, OUT_WORDS);
+    holds(what, sz_run(pool, words, orders, 3 * count, out, OUT_WORDS), SZ_DONE, count);
+    untouched("the words after the answers", out + 2 * count, OUT_WORDS - 2 * count);
+    untouched("the words after the pool", pool + words, LENT_WORDS - words);
 }
 
 /* Serves so many of the orders, each answered as the list answers it. */
@@ -259,7 +307,7 @@ static void run_beside_the_list(size_t words, size_t count) {
 }
 
 static void read_beside_the_list(size_t words) {
-    holds("values after run", sz_values(pool, words, out, MARK_WORDS), SZ_DONE, words_for(listed));
+    holds("values after run", sz_values(pool, words, out, OUT_WORDS), SZ_DONE, words_for(listed));
     for (uint64_t i = 0; i < listed; i++)
         is("a mark after run", out[i / 64] >> i % 64 & 1, list[i]);
 }
@@ -267,7 +315,7 @@ static void read_beside_the_list(size_t words) {
 /* Each kind of order once, on five marks and none, and what is no order. */
 static void each_order(void) {
     size_t words = SZ_POOL_WORDS(3);
-    spoil(pool, POOL_WORDS);
+    spoil(pool, LENT_WORDS);
     sz_build(pool, words, marks, 0, 0);
     for (size_t i = 0; i < 5; i++)
         order(i, SZ_INSERT, i, i % 3 == 0);
@@ -299,7 +347,7 @@ static void each_order(void) {
 /* A leaf of 127 marks and no node free: an insert is answered Full and changes nothing, and what comes after it is served. */
 static void full(void) {
     size_t words = SZ_POOL_WORDS(2);
-    spoil(pool, POOL_WORDS);
+    spoil(pool, LENT_WORDS);
     sz_build(pool, words, marks, 0, 0);
     for (size_t i = 0; i < 127; i++)
         order(i, SZ_INSERT, i, 1);
@@ -312,7 +360,7 @@ static void full(void) {
     answered("full", 0, SZ_FULL, 0);
     answered("out of range before full", 1, SZ_OUT_OF_RANGE, 0);
     answered("the rank after full", 2, SZ_DONE, 127);
-    same("full: the pool", pool, before, POOL_WORDS);
+    same("full: the pool", pool, before, LENT_WORDS);
     order(0, SZ_REMOVE, 64, 0);
     order(1, SZ_INSERT, 64, 0);
     run("room again", words, 2);
@@ -324,31 +372,30 @@ static void full(void) {
 /* The tests of a run, in their sequence. */
 static void run_refusals(void) {
     size_t words = SZ_POOL_WORDS(9);
-    spoil(pool, POOL_WORDS);
+    spoil(pool, LENT_WORDS);
     sz_build(pool, words, marks, MARK_WORDS, 300);
     order(0, SZ_INSERT, 0, 1);
     order(1, SZ_REMOVE, 0, 0);
-    spoil(out, MARK_WORDS + 2);
+    spoil(out, OUT_WORDS);
     memcpy(before, pool, sizeof pool);
     refused("run, a word too few", sz_run(pool, words - 1, orders, 4, out, 0), SZ_WRONG_SIZE);
     refused("run, part of an order", sz_run(pool, words, orders, 4, out, 1), SZ_PART_ORDER);
     refused("run, part of an order", sz_run(pool, words, orders, 5, out, 4), SZ_PART_ORDER);
     refused("run, too short", sz_run(pool, words, orders, 6, out, 3), SZ_SHORT_OUTPUT);
     holds("run, no order", sz_run(pool, words, orders, 0, out, 0), SZ_DONE, 0);
-    same("run, no order: the pool", pool, before, POOL_WORDS);
+    same("run, no order: the pool", pool, before, LENT_WORDS);
     pool[words - 1] = 1;
     memcpy(before, pool, sizeof pool);
     refused("run, part and damaged", sz_run(pool, words, orders, 5, out, 4), SZ_PART_ORDER);
     refused("run, short and damaged", sz_run(pool, words, orders, 6, out, 3), SZ_SHORT_OUTPUT);
     refused("run, damaged", sz_run(pool, words, orders, 6, out, 4), SZ_NOT_SOUND);
     refused("run, no order and damaged", sz_run(pool, words, orders, 0, out, 0), SZ_NOT_SOUND);
-    for (size_t i = 0; i < 4; i++)
-        is("run, refused: the output", out[i], SPARE);
+    untouched("run, refused: the output", out, OUT_WORDS);
 }
 
 /* Many orders of every kind, and some that are none: the window grows at first and shrinks then. */
 static void many_orders(void) {
-    spoil(pool, POOL_WORDS);
+    spoil(pool, LENT_WORDS);
     sz_build(pool, POOL_WORDS, marks, 0, 0);
     listed = 0;
     for (unsigned turn = 0; turn < 60; turn++) {
@@ -366,14 +413,19 @@ static void many_orders(void) {
 int main(void) {
     for (size_t i = 0; i < MARK_WORDS; i++)
         marks[i] = drawn();
-    round_trip(1, 0);
-    for (uint64_t length = 0; length <= 700; length++)
-        round_trip(length <= 64 ? 1 : 2 * ((length + 63) / 64) - 1, length);
-    round_trip(MOST_NODES, 15000);
-    round_trip(MOST_NODES, 64 * MARK_WORDS);
+    for (int longer = 0; longer < 2; longer++) {
+        for (uint64_t length = 0; length <= 700; length++)
+            round_trip(length <= 64 ? 1 : 2 * ((length + 63) / 64) - 1, length, longer);
+        round_trip(MOST_NODES, 15000, longer);
+        round_trip(MOST_NODES, 64 * MARK_WORDS, longer);
+    }
     shapes();
     damages();
     sizes();
+    lent_too_many(9, 300);
+    lent_too_many(1, 0);
+    lent_too_many(MOST_NODES - 1, 15000);
+    lent_too_many(MOST_NODES, 15000);
     each_order();
     full();
     run_refusals();
