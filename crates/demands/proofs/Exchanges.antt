@@ -14,10 +14,12 @@ use Rattle.model.specs.Tree.{marks, size}
 use Rattle.model.proofs.Cases.{by-leb, by-test}
 use Rattle.model.proofs.Content.{size-marks}
 use Rattle.model.proofs.Floor.{floor-window}
-use Rattle.window.specs.Answer.{code, value}
+use Rattle.serve.specs.Answer.{code, value}
 use Rattle.window.specs.Layout.{Counted, Stands, trailer-of}
-use Rattle.window.specs.Orders.{Asked, asks, with-bit, with-zero, inserting, removing, unknown, answer, after, answers, after-all, answer-words, orders-of, list-after, list-answer, no-room, bit-value}
-use Rattle.window.specs.declared.answer.Answer.the-variants.{Done, Full}
+use Rattle.serve.specs.Orders as Serve
+use Rattle.serve.specs.Orders.{Asked, asks, with-bit, with-zero, inserting, removing, unknown, list-after, list-answer, bit-value}
+use Rattle.window.specs.Orders.{answer, after, answers, after-all, answer-words, orders-of, no-room}
+use Rattle.serve.specs.declared.answer.Answer.the-variants.{Done, Full}
 use Rattle.window.proofs.OneState.{counted-one, one-state}
 use Rattle.window.proofs.Pinned.{Likely, cases, one-layout, words-stable}
 use Rattle.demands.specs.Following.{full, AllRefused, ListAnswers, TellsFull}
@@ -170,7 +172,7 @@ module _ {ws : List ℕ} {e : Exchange} (r : InRun ws e) where
           with-the-bit false = refl
 
       pub removed : e .entry .number ≡ 2 → marks (q .tree) ≡ Marks.remove (e .entry .second) (marks (p .tree))
-      unfolding answer no-room list-answer code
+      unfolding Serve.answer Serve.no-room list-answer code
       removed two =
           by-kind (e .entry .number) (e .entry .second) (e .entry .third)
           (λ b one bit a. absurd (omega arith))

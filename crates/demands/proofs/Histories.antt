@@ -16,11 +16,11 @@ use Rattle.model.proofs.Cases.{by-ltb}
 use Rattle.model.proofs.Content.{size-marks}
 use Rattle.model.proofs.PoolSound.{build-tree}
 use Rattle.build.proofs.LeafMarks.{marks-of-length}
-use Rattle.window.specs.Answer.{code, value}
+use Rattle.serve.specs.Answer.{code, value}
 use Rattle.window.specs.Calls.{Checked, Valued, order-count}
 use Rattle.window.specs.Layout.{Counted, Stands}
 use Rattle.window.specs.Orders.{answer-words, list-answers, orders-of}
-use Rattle.window.specs.declared.answer.Answer.the-variants.{Done}
+use Rattle.serve.specs.declared.answer.Answer.the-variants.{Done}
 use Rattle.window.proofs.Pinned.{Likely, cases, words-stable}
 use Rattle.demands.specs.Following.{AgreeOrFull, AllRefused, Follows, NoneFull, carried-out, done}
 use Rattle.demands.specs.History.{Accepted, History, all-orders, log}

@@ -13,9 +13,11 @@ use Rattle.model.specs.Pool.{Pool}
 use Rattle.model.specs.Tree.{marks}
 use Rattle.model.proofs.Cases.{by-leb, by-ltb, by-test}
 use Rattle.model.proofs.MarksEdits.{length-insert, length-remove}
-use Rattle.window.specs.Answer.{code, value}
-use Rattle.window.specs.Orders.{asks, with-bit, with-zero, inserting, removing, accessing, ranking, selecting, quiet, unknown, in-range, no-room, answer, after, answers, after-all, answer-words, orders-of, list-answer, list-after, bit-value}
-use Rattle.window.specs.declared.answer.Answer.the-variants.{Done}
+use Rattle.serve.specs.Answer.{code, value}
+use Rattle.serve.specs.Orders as Serve
+use Rattle.serve.specs.Orders.{asks, with-bit, with-zero, inserting, removing, accessing, ranking, selecting, quiet, unknown, in-range, list-answer, list-after, bit-value}
+use Rattle.window.specs.Orders.{no-room, answer, after, answers, after-all, answer-words, orders-of}
+use Rattle.serve.specs.declared.answer.Answer.the-variants.{Done}
 use Rattle.demands.specs.Following.{counts, done}
 use Rattle.demands.specs.History.{Entry, log}
 use Rattle.demands.proofs.OrderByOrder.{after-marks, by-kind}
@@ -27,17 +29,17 @@ use Rattle.demands.proofs.TheList.{done-marks}
 
 pub insert-done : (i : ℕ) (b : Bool) (p : Pool) → code (answer (inserting i b) p) ≡ 0
     → (i ≤ length (marks (p .tree))) × (marks (after (inserting i b) p .tree) ≡ Marks.insert i b (marks (p .tree)))
-unfolding answer list-answer list-after code
+unfolding Serve.answer list-answer list-after code
 insert-done i b p e =
     by-test (no-room (inserting i b) p)
-    (λ t. absurd (omega (arith, rw (answer, t) at e)))
+    (λ t. absurd (omega (arith, rw (Serve.answer, t) at e)))
     (λ t. by-leb i (length (marks (p .tree)))
     (λ u h. (h, after-marks (inserting i b) p t ∙ rw (list-after, u)))
-    (λ u h. absurd (omega (arith, rw u at (rw (answer, t) at e)))))
+    (λ u h. absurd (omega (arith, rw u at (rw (Serve.answer, t) at e)))))
 
 pub remove-done : (i : ℕ) (p : Pool) → code (answer (removing i) p) ≡ 0
     → (i < length (marks (p .tree))) × (answer (removing i) p ≡ Done (bit-value (Marks.access i (marks (p .tree))))) × (marks (after (removing i) p .tree) ≡ Marks.remove i (marks (p .tree)))
-unfolding answer no-room list-answer list-after code
+unfolding Serve.answer Serve.no-room list-answer list-after code
 remove-done i p e =
     by-ltb i (length (marks (p .tree)))
     (λ u h. (h, ap (λ (c : Bool). in-range c (Done (bit-value (Marks.access i (marks (p .tree)))))) u, after-marks (removing i) p refl ∙ rw (list-after, u)))
@@ -116,7 +118,7 @@ refused n x y p c =
 
 -- any order
 kept : (n x y : ℕ) (p : Pool) → Keeps n x y p
-unfolding answer no-room list-answer code
+unfolding Serve.answer Serve.no-room list-answer code
 kept n x y p =
     by-test (eqb (code (answer (asks n x y) p)) 0)
     (λ t.

@@ -10,16 +10,18 @@ use lib.ListN.{length, drop}
 use Rattle.model.specs.Edit as Edit
 use Rattle.model.specs.Marks as Marks
 use Rattle.model.specs.Pool as Pool
-use Rattle.model.specs.Pool.{Pool}
+use Rattle.model.specs.Pool.{Pool, two-free}
 use Rattle.model.specs.Sound.{Sound}
 use Rattle.model.specs.Tree.{marks, size}
 use Rattle.model.proofs.Cases.{by-leb, by-ltb, by-test}
 use Rattle.model.proofs.Content.{size-marks}
-use Rattle.model.proofs.PoolSound.{insert-sound, remove-sound, insert-pool-marks, remove-pool-marks}
-pub use Rattle.window.proofs.Orderly.{never}
-use Rattle.window.specs.Orders.{Asked, asks, with-bit, with-zero, bit-value, inserting, removing, accessing, ranking, selecting, quiet, unknown, in-range, placed, no-room, after, after-all, list-answer, list-after, or-else}
-use Rattle.window.specs.Answer.{code}
-use Rattle.window.specs.declared.answer.Answer.the-variants.{Done}
+use Rattle.model.proofs.PoolSound.{insert-pool-marks, remove-pool-marks}
+pub use Rattle.serve.proofs.Orderly.{never}
+use Rattle.serve.specs.Orders as Serve
+use Rattle.serve.specs.Orders.{Asked, asks, with-bit, with-zero, bit-value, inserting, removing, accessing, ranking, selecting, quiet, unknown, in-range, placed, list-answer, list-after, or-else}
+use Rattle.window.specs.Orders.{no-room, after, after-all}
+use Rattle.serve.specs.Answer.{code}
+use Rattle.serve.specs.declared.answer.Answer.the-variants.{Done}
 
 -- 1 for an insert, and 0 for any other order
 unfoldable pub inserting-count : Asked → ℕ
@@ -44,7 +46,7 @@ pub record Asks (n : ℕ) (o : Asked) : Type 0 where
 -- what three words ask: an insert, a remove, a question, or nothing that is known
 pub by-kind : {P : Type 0} (n x y : ℕ) → ((b : Bool) → n ≡ 1 → y ≡ bit-value b → asks n x y ≡ inserting x b → P)
     → (n ≡ 2 → asks n x y ≡ removing x → P) → (Asks n (asks n x y) → P) → (asks n x y ≡ unknown → P) → P
-unfolding asks with-bit with-zero after inserting-count
+unfolding asks with-bit with-zero Serve.after inserting-count
 by-kind {P = P} n x y ins rem ask unk = kinds n x y ins rem ask unk
   where
     question : {n : ℕ} {o : Asked} → 3 ≤ n → ((p : Pool) → after o p ≡ p) → inserting-count o ≡ 0 → Asks n o
@@ -72,10 +74,10 @@ by-kind {P = P} n x y ins rem ask unk = kinds n x y ins rem ask unk
     kinds (suc (suc (suc (suc (suc (suc (suc n))))))) x y ins rem ask unk = unk refl
 
 -- an insert has room or has none
-pub by-room : {P : Type 0} (i : ℕ) (b : Bool) (p : Pool) → (Pool.full i p ≡ true → Pool.insert i b p ≡ none → P) → ((q : Pool) → Pool.full i p ≡ false → Pool.insert i b p ≡ some q → P) → P
+pub by-room : {P : Type 0} (i : ℕ) (b : Bool) (p : Pool) → (Pool.full (two-free p) i p ≡ true → Pool.insert (two-free p) i b p ≡ none → P) → ((q : Pool) → Pool.full (two-free p) i p ≡ false → Pool.insert (two-free p) i b p ≡ some q → P) → P
 unfolding Pool.insert
 by-room i b p f g =
-    by-test (Pool.full i p)
+    by-test (Pool.full (two-free p) i p)
     (λ e. f e (rw (Pool.insert, e)))
     (λ e. g (record {
       tree = Edit.insert i b (p .free) (p .tree);
@@ -105,39 +107,15 @@ list-codes o xs = listed o
     listed quiet = ((λ e. omega arith), omega arith)
     listed unknown = ((λ e. omega arith), omega arith)
 
--- a pool that is sound stays sound
-pub after-sound : (n : ℕ) (o : Asked) (p : Pool) → Sound n p → Sound n (after o p)
-unfolding after
-after-sound n (inserting i b) p s =
-    let e = size-marks (p .tree) in
-    by-leb i (length (marks (p .tree)))
-    (λ t h. by-room i b p
-    (λ _ f. rw (after, t, f) s)
-    (λ q _ f. rw (after, t, f) (insert-sound n i b p q (omega arith) f s)))
-    (λ t h. rw (after, t) s)
-after-sound n (removing i) p s =
-    let e = size-marks (p .tree) in
-    by-ltb i (length (marks (p .tree))) (λ t h. rw (after, t) (remove-sound n i p (omega arith) s)) (λ t h. rw (after, t) s)
-after-sound n (accessing i) p s = s
-after-sound n (ranking i b) p s = s
-after-sound n (selecting i b) p s = s
-after-sound n quiet p s = s
-after-sound n unknown p s = s
-
-pub after-all-sound : (n : ℕ) (os : List Asked) (p : Pool) → Sound n p → Sound n (after-all os p)
-unfolding after-all
-after-all-sound n [] p s = s
-after-all-sound n (o ∷ os) p s = after-all-sound n os (after o p) (after-sound n o p s)
-
 -- an order that finds no room changes nothing
 pub after-full : (o : Asked) (p : Pool) → no-room o p ≡ true → after o p ≡ p
-unfolding no-room after
+unfolding Serve.no-room Serve.after
 after-full (inserting i b) p e =
     by-leb i (length (marks (p .tree)))
     (λ t h. by-room i b p
-    (λ _ f. rw (after, t, f))
-    (λ q f _. never (rw (no-room, t, f) at e) refl))
-    (λ t h. rw (after, t))
+    (λ _ f. rw (Serve.after, t, f))
+    (λ q f _. never (rw (Serve.no-room, t, f) at e) refl))
+    (λ t h. rw (Serve.after, t))
 after-full (removing i) p e = never e refl
 after-full (accessing i) p e = refl
 after-full (ranking i b) p e = refl
@@ -147,17 +125,17 @@ after-full unknown p e = refl
 
 -- with room, the marks become those of the list
 pub after-marks : (o : Asked) (p : Pool) → no-room o p ≡ false → marks (after o p .tree) ≡ list-after o (marks (p .tree))
-unfolding no-room after list-after
+unfolding Serve.no-room Serve.after list-after
 after-marks (inserting i b) p e =
     let s = size-marks (p .tree) in
     by-leb i (length (marks (p .tree)))
     (λ t h. by-room i b p
-    (λ f _. never (rw (no-room, t, f)) e)
-    (λ q _ f. rw (after, list-after, t, f) (insert-pool-marks i b p q (omega arith) f)))
-    (λ t h. rw (after, list-after, t))
+    (λ f _. never (rw (Serve.no-room, t, f)) e)
+    (λ q _ f. rw (Serve.after, list-after, t, f) (insert-pool-marks (two-free p) i b p q (omega arith) f)))
+    (λ t h. rw (Serve.after, list-after, t))
 after-marks (removing i) p e =
     let s = size-marks (p .tree) in
-    by-ltb i (length (marks (p .tree))) (λ t h. rw (after, list-after, t) (remove-pool-marks i p (omega arith))) (λ t h. rw (after, list-after, t))
+    by-ltb i (length (marks (p .tree))) (λ t h. rw (Serve.after, list-after, t) (remove-pool-marks i p (omega arith))) (λ t h. rw (Serve.after, list-after, t))
 after-marks (accessing i) p e = refl
 after-marks (ranking i b) p e = refl
 after-marks (selecting i b) p e = refl

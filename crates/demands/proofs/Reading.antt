@@ -13,12 +13,13 @@ use Rattle.model.specs.Pool.{Pool}
 use Rattle.model.specs.Tree.{size}
 use Rattle.model.specs.Word.{marks-of}
 use Rattle.model.proofs.Cases.{by-ltb}
-use Rattle.window.specs.Answer.{code, value}
+use Rattle.serve.specs.Answer.{code, value}
 use Rattle.window.specs.Calls.{NoPool, BuildsTo, Ran, order-count}
 use Rattle.window.specs.Layout.{Counted, Stands, WellFormed, trailer-of}
-use Rattle.window.specs.Orders.{Asked, asks, orders-of, answer, after, answers, after-all, answer-words}
-use Rattle.window.specs.declared.answer.Answer.{Answer}
-use Rattle.window.specs.declared.answer.Answer.the-variants.{Done}
+use Rattle.serve.specs.Orders.{Asked, asks}
+use Rattle.window.specs.Orders.{orders-of, answer, after, answers, after-all, answer-words}
+use Rattle.serve.specs.declared.answer.Answer.{Answer}
+use Rattle.serve.specs.declared.answer.Answer.the-variants.{Done}
 use Rattle.window.proofs.Pinned.{Likely, cases}
 use Rattle.demands.specs.History.{Accepted, Entry, Exchange, History, InRun, Runs, all-orders, asked, log, order-words, trailer}
 

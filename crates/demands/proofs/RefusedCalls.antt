@@ -14,11 +14,11 @@ use Rattle.model.specs.Pool.{Pool}
 use Rattle.model.specs.Tree.{size}
 use Rattle.model.specs.Word.{marks-of, words-for}
 use Rattle.model.proofs.Cases.{by-ltb}
-use Rattle.window.specs.Answer.{code}
+use Rattle.serve.specs.Answer.{code}
 use Rattle.window.specs.Calls.{NoPool, Damaged, BuildsTo, Valued, Ran, Unchanged, order-count}
 use Rattle.window.specs.Layout.{Counted, Stands}
-use Rattle.window.specs.declared.answer.Answer.{Answer}
-use Rattle.window.specs.declared.answer.Answer.the-variants.{Done}
+use Rattle.serve.specs.declared.answer.Answer.{Answer}
+use Rattle.serve.specs.declared.answer.Answer.the-variants.{Done}
 use Rattle.window.proofs.Pinned.{Likely, words-stable, sized, cases}
 
 -- an answer that is done has the code 0

@@ -14,11 +14,13 @@ use Rattle.model.specs.Marks as Marks
 use Rattle.model.specs.Pool.{Pool}
 use Rattle.model.specs.Tree.{marks}
 use Rattle.model.proofs.Cases.{by-test}
-use Rattle.window.specs.Answer.{code, value}
+use Rattle.serve.specs.Answer.{code, value}
 use Rattle.window.specs.Calls.{order-count}
-use Rattle.window.specs.Orders.{Asked, asks, orders-of, no-room, answer, after, answers, after-all, answer-words, list-answer, list-after, list-answers}
-use Rattle.window.specs.declared.answer.Answer.{Answer}
-use Rattle.window.specs.declared.answer.Answer.the-variants.{Full}
+use Rattle.serve.specs.Orders as Serve
+use Rattle.serve.specs.Orders.{Asked, asks, list-answer, list-after}
+use Rattle.window.specs.Orders.{orders-of, no-room, answer, after, answers, after-all, answer-words, list-answers}
+use Rattle.serve.specs.declared.answer.Answer.{Answer}
+use Rattle.serve.specs.declared.answer.Answer.the-variants.{Full}
 use Rattle.demands.specs.Following.{Follows, NoneFull, carried-out}
 use Rattle.demands.specs.History.{log}
 use Rattle.demands.proofs.OrderByOrder.{after-full, after-marks}
@@ -27,19 +29,19 @@ use Rattle.demands.proofs.Refusals.{refused-changes-nothing}
 
 -- an order that finds no room
 pub one-order-full : (o : Asked) (p : Pool) → no-room o p ≡ true → (answer o p ≡ Full) × (after o p ≡ p)
-unfolding answer
-one-order-full o p e = (rw (answer, e), after-full o p e)
+unfolding Serve.answer
+one-order-full o p e = (rw (Serve.answer, e), after-full o p e)
 
 -- and any other
 pub one-order : (o : Asked) (p : Pool) → no-room o p ≡ false
     → (answer o p ≡ list-answer o (marks (p .tree))) × (marks (after o p .tree) ≡ list-after o (marks (p .tree)))
-unfolding answer
-one-order o p e = (rw (answer, e), after-marks o p e)
+unfolding Serve.answer
+one-order o p e = (rw (Serve.answer, e), after-marks o p e)
 
 -- what is answered 0 is carried out
 pub done-marks : (o : Asked) (p : Pool) → code (answer o p) ≡ 0 → marks (after o p .tree) ≡ list-after o (marks (p .tree))
-unfolding answer code
-done-marks o p e = by-test (no-room o p) (λ t. absurd (omega (arith, rw (answer, t) at e))) (λ t. one-order o p t .1)
+unfolding Serve.answer code
+done-marks o p e = by-test (no-room o p) (λ t. absurd (omega (arith, rw (Serve.answer, t) at e))) (λ t. one-order o p t .1)
 
 -- ---- a whole list of orders, in words
 

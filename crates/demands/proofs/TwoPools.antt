@@ -10,15 +10,17 @@ use mathlib.Core.Option.{Option, none, some}
 use lib.Dec.{leb, ltb}
 use lib.ListN.{length}
 use Rattle.model.specs.Pool as Pool
-use Rattle.model.specs.Pool.{Pool}
+use Rattle.model.specs.Pool.{Pool, two-free}
 use Rattle.model.specs.Tree.{marks}
 use Rattle.model.proofs.Cases.{by-leb, by-ltb, by-test}
 use Rattle.model.proofs.Content.{size-marks}
 use Rattle.model.proofs.TwoPools.{Wider, Steps, alike, both-full, one-full, build-wider, insert-wider, remove-wider}
-use Rattle.window.specs.Answer.{code, value}
-use Rattle.window.specs.Orders.{Asked, inserting, removing, accessing, ranking, selecting, quiet, unknown, in-range, no-room, asks, orders-of, answer, after, answers, answer-words, list-answer}
-use Rattle.window.specs.declared.answer.Answer.{Answer}
-use Rattle.window.specs.declared.answer.Answer.the-variants.{Done, Full}
+use Rattle.serve.specs.Answer.{code, value}
+use Rattle.serve.specs.Orders as Serve
+use Rattle.serve.specs.Orders.{Asked, inserting, removing, accessing, ranking, selecting, quiet, unknown, in-range, asks, list-answer}
+use Rattle.window.specs.Orders.{no-room, orders-of, answer, after, answers, answer-words}
+use Rattle.serve.specs.declared.answer.Answer.{Answer}
+use Rattle.serve.specs.declared.answer.Answer.the-variants.{Done, Full}
 use Rattle.demands.specs.Following.{AgreeOrFull}
 use Rattle.demands.specs.History.{Entry, log}
 use Rattle.demands.proofs.OrderByOrder.{by-room}
@@ -30,29 +32,29 @@ pub data Both (p q : Pool) (a b : Answer) : Type 0 where
   smaller-full : a ≡ Full → (code b ≡ 4 → ⊥) → Both p q a b
 
 -- an insert in range, by what the model's insert makes of the pool
-in-room : (i : ℕ) (b : Bool) (p q : Pool) → leb i (length (marks (p .tree))) ≡ true → Pool.insert i b p ≡ some q
+in-room : (i : ℕ) (b : Bool) (p q : Pool) → leb i (length (marks (p .tree))) ≡ true → Pool.insert (two-free p) i b p ≡ some q
     → (answer (inserting i b) p ≡ Done 0) × (after (inserting i b) p ≡ q)
-unfolding answer no-room after list-answer
+unfolding Serve.answer Serve.no-room Serve.after list-answer
 in-room i b p q t e =
     by-room i b p
     (λ _ f. let z : none ≡ some q = sym f ∙ e in let n : _≡_ {A = ℕ} 0 1 = cc in absurd (omega arith))
-    (λ r f g. (rw (answer, no-room, t, f) (ap (λ (c : Bool). in-range c (Done 0)) t), rw (after, t, e)))
+    (λ r f g. (rw (Serve.answer, Serve.no-room, t, f) (ap (λ (c : Bool). in-range c (Done 0)) t), rw (Serve.after, t, e)))
 
-no-more-room : (i : ℕ) (b : Bool) (p : Pool) → leb i (length (marks (p .tree))) ≡ true → Pool.insert i b p ≡ none
+no-more-room : (i : ℕ) (b : Bool) (p : Pool) → leb i (length (marks (p .tree))) ≡ true → Pool.insert (two-free p) i b p ≡ none
     → (answer (inserting i b) p ≡ Full) × (after (inserting i b) p ≡ p)
-unfolding answer no-room after
+unfolding Serve.answer Serve.no-room Serve.after
 no-more-room i b p t e =
     by-room i b p
-    (λ f _. (rw (answer, no-room, t, f), rw (after, t, e)))
+    (λ f _. (rw (Serve.answer, Serve.no-room, t, f), rw (Serve.after, t, e)))
     (λ r f g. let z : none ≡ some r = sym e ∙ g in let n : _≡_ {A = ℕ} 0 1 = cc in absurd (omega arith))
 
 out-of-range : (i : ℕ) (b : Bool) (p : Pool) → leb i (length (marks (p .tree))) ≡ false
     → (answer (inserting i b) p ≡ in-range false (Done 0)) × (after (inserting i b) p ≡ p)
-unfolding answer no-room after list-answer
-out-of-range i b p t = (rw (answer, no-room, t) (ap (λ (c : Bool). in-range c (Done 0)) t), rw (after, t))
+unfolding Serve.answer Serve.no-room Serve.after list-answer
+out-of-range i b p t = (rw (Serve.answer, Serve.no-room, t) (ap (λ (c : Bool). in-range c (Done 0)) t), rw (Serve.after, t))
 
 inserts : (i : ℕ) (b : Bool) (p q : Pool) → Wider p q
-    → leb i (length (marks (p .tree))) ≡ true → leb i (length (marks (q .tree))) ≡ true → Steps (Pool.insert i b p) (Pool.insert i b q)
+    → leb i (length (marks (p .tree))) ≡ true → leb i (length (marks (q .tree))) ≡ true → Steps (Pool.insert (two-free p) i b p) (Pool.insert (two-free q) i b q)
     → Both (after (inserting i b) p) (after (inserting i b) q) (answer (inserting i b) p) (answer (inserting i b) q)
 unfolding code
 inserts i b p q w t u (alike p′ q′ e f v) =
@@ -72,7 +74,7 @@ same-marks : (p q : Pool) → Wider p q → marks (q .tree) ≡ marks (p .tree)
 same-marks p q w = ap marks (w .tree)
 
 pub both-orders : (o : Asked) (p q : Pool) → Wider p q → Both (after o p) (after o q) (answer o p) (answer o q)
-unfolding answer no-room after list-answer
+unfolding Serve.answer Serve.no-room Serve.after list-answer
 both-orders (inserting i b) p q w =
     let m = size-marks (p .tree) in
     let s = same-marks p q w in
@@ -86,8 +88,8 @@ both-orders (removing i) p q w =
     let s = same-marks p q w in
     agree (ap (list-answer (removing i)) (sym s))
     (by-ltb i (length (marks (p .tree)))
-    (λ t h. rw (after, t, ap (λ (xs : List Bool). ltb i (length xs)) s ∙ t) (remove-wider i p q w))
-    (λ t h. rw (after, t, ap (λ (xs : List Bool). ltb i (length xs)) s ∙ t) w))
+    (λ t h. rw (Serve.after, t, ap (λ (xs : List Bool). ltb i (length xs)) s ∙ t) (remove-wider i p q w))
+    (λ t h. rw (Serve.after, t, ap (λ (xs : List Bool). ltb i (length xs)) s ∙ t) w))
 both-orders (accessing i) p q w = agree (ap (list-answer (accessing i)) (sym (same-marks p q w))) w
 both-orders (ranking end b) p q w = agree (ap (list-answer (ranking end b)) (sym (same-marks p q w))) w
 both-orders (selecting k b) p q w = agree (ap (list-answer (selecting k b)) (sym (same-marks p q w))) w

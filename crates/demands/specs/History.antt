@@ -7,8 +7,8 @@ use lib.ListN.{length, take, drop, getD}
 use Rattle.pool.specs.Node.{node-words}
 use Rattle.window.specs.Calls.{BuildsTo, Ran, order-count}
 use Rattle.window.specs.Layout.{WellFormed, trailer-in}
-use Rattle.window.specs.Orders.{Asked, asks}
-use Rattle.window.specs.declared.answer.Answer.the-variants.{Done}
+use Rattle.serve.specs.Orders.{Asked, asks}
+use Rattle.serve.specs.declared.answer.Answer.the-variants.{Done}
 use Rattle.window.specs.declared.trailer.Trailer.{Trailer}
 
 -- the trailer of a pool: its last six words

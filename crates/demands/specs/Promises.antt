@@ -5,20 +5,23 @@ use Prim.Native.Nat.{ℕ, _+_, _≤_, _<_}
 use mathlib.Core.Path.{_≡_}
 use mathlib.Core.Bool.{Bool}
 use mathlib.Core.List.{List, _++_}
+use mathlib.Core.Option.{some}
 use lib.ListN.{length, take, drop}
 use Rattle.model.specs.Edit.{leaf-at}
 use Rattle.model.specs.Limits.{least-full}
 use Rattle.model.specs.Marks as Marks
+use Rattle.model.specs.Pool as Pool
 use Rattle.model.specs.Pool.{Pool}
 use Rattle.model.specs.Sound.{Sound, leaf-most}
 use Rattle.model.specs.Tree.{marks}
 use Rattle.model.specs.Word.{marks-of, words-of}
-use Rattle.window.specs.Answer.{code}
+use Rattle.serve.specs.Answer.{code}
 use Rattle.window.specs.Calls.{BuildsTo, Checked, Valued, Ran, order-count}
 use Rattle.window.specs.Layout.{Counted, Stands}
-use Rattle.window.specs.Orders.{inserting, answer, answer-words, bit-value, list-after, list-answers, orders-of}
-use Rattle.window.specs.declared.answer.Answer.{Answer}
-use Rattle.window.specs.declared.answer.Answer.the-variants.{Done, Full}
+use Rattle.serve.specs.Orders.{Asked, inserting, bit-value, list-after}
+use Rattle.window.specs.Orders.{after-all, answer, answer-words, list-answers, orders-of}
+use Rattle.serve.specs.declared.answer.Answer.{Answer}
+use Rattle.serve.specs.declared.answer.Answer.the-variants.{Done, Full}
 use Rattle.demands.specs.Following.{full, ListAnswers, TellsFull, Follows, NoneFull, AllRefused, AgreeOrFull, carried-out, done}
 use Rattle.demands.specs.History.{Accepted, Entry, Exchange, History, InRun, all-orders, asked, log, trailer}
 
@@ -116,13 +119,13 @@ NoFullBelow16958 =
     → length slice ≡ 6144 → History slice words len lists ws told → InRun ws e → e .entry .code ≡ full
     → 16958 ≤ trailer (e .before) .length
 
--- no greater number can be promised: for every count of nodes there is a sound pool that holds exactly so many marks and has no
--- room for an insert
+-- no greater number can be promised: for every count of nodes there are a build and orders after which a sound pool holds
+-- exactly so many marks and has no room for an insert
 abbrev pub FloorIsSharp : Type 0
 FloorIsSharp =
     (n : ℕ) → 1 ≤ n
-    → (p : Pool) × (i : ℕ) × Sound n p × (length (marks (p .tree)) ≡ least-full n)
-    × ((b : Bool) → answer (inserting i b) p ≡ Full)
+    → (xs : List Bool) × (p : Pool) × (os : List Asked) × (i : ℕ) × (Pool.build n xs ≡ some p) × Sound n (after-all os p)
+    × (length (marks (after-all os p .tree)) ≡ least-full n) × ((b : Bool) → answer (inserting i b) (after-all os p) ≡ Full)
 
 -- ---- 4: nothing is lost
 

@@ -12,7 +12,7 @@ use lib.Seq.{take-all}
 use borrow.Author.Tests.{eqb-true, le-ltb}
 use Rattle.bytes.specs.Bytes.{indexAfter, indexOf}
 use Rattle.model.proofs.Cases.{by-ltb, by-test}
-use Rattle.window.specs.Orders.{Asked, asks, with-bit}
+use Rattle.serve.specs.Orders.{Asked, asks, with-bit}
 use Rattle.grammar.specs.Lines.{asks-with, fields, hex-words, line-of, load-of, loading, named, no-field, one-number, order-with, ordering, two-numbers, wanted, wanted-of, Wanted}
 use Rattle.grammar.specs.Text.{all-digits, decimal, number-in, pieces, space, worth}
 use Rattle.grammar.specs.declared.fields.Name.the-variants.{Insert, Rank, Select}

@@ -10,7 +10,7 @@ use mathlib.Core.Option.{Option, none, some, bind}
 use denote.Ref.{now}
 use lib.ListN.{length, take}
 use lib.Seq.{length-take-le}
-use Rattle.window.specs.Orders.{Asked, asks, accessing, bit-value, inserting, quiet, ranking, removing, selecting, unknown, with-bit, with-zero}
+use Rattle.serve.specs.Orders.{Asked, asks, accessing, bit-value, inserting, quiet, ranking, removing, selecting, unknown, with-bit, with-zero}
 use Rattle.grammar.specs.Lines.{dumping, line-of, load-of, loading, named, no-field, one-number, order-with, ordering, pooling, Reads, Tells, two-numbers, wanted, wanted-of, Wanted}
 use Rattle.grammar.specs.Lines as Lines
 use Rattle.grammar.specs.Text.{decimal}

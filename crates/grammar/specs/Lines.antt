@@ -15,7 +15,7 @@ use mathlib.Core.Bool.{Bool, true, false}
 use mathlib.Core.List.{List, [], _∷_}
 use mathlib.Core.Option.{Option, none, some, bind}
 use lib.ListN.{length, take}
-use Rattle.window.specs.Orders.{Asked, asks, bit-value, inserting, removing, accessing, ranking, selecting, quiet}
+use Rattle.serve.specs.Orders.{Asked, asks, bit-value, inserting, removing, accessing, ranking, selecting, quiet}
 use Rattle.grammar.specs.Text.{decimal, hex-word, newline, pieces, same, space}
 use Rattle.grammar.specs.declared.fields.Name.{Name}
 use Rattle.grammar.specs.declared.fields.Name.the-variants.{Pool, Load, Insert, Remove, Get, Rank, Select, Gap, Dump, Other}

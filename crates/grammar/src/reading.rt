@@ -3,7 +3,7 @@ ghost use mathlib.Core.List.{[]};
 ghost use mathlib.Core.Option.{some};
 ghost use Prim.Native.Nat.{_*_, _≤_, _<_};
 ghost use lib.ListN as ListN;
-ghost use Rattle.window.specs.Orders.{asks};
+ghost use Rattle.serve.specs.Orders.{asks};
 ghost use Rattle.grammar.specs.Lines.{asks-with, fields as Lines·fields, line-of, load-of, one-number, order-with, ordering};
 ghost use Rattle.grammar.specs.Lines.{pooling, Reads, Says, Tells, two-numbers};
 use crate::fields::Name;

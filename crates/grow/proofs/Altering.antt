@@ -2,7 +2,7 @@
 -- doubled.
 use Prim.Native.Nat.{ℕ, _+_, _-_, _≤_}
 use native.Mathlib.Omega.{arith}
-use mathlib.Core.Path.{_≡_, ap, _∙_}
+use mathlib.Core.Path.{_≡_, sym, ap, _∙_}
 use mathlib.Core.Bool.{Bool, true, false}
 use mathlib.Core.List.{List, _∷_, _++_}
 use mathlib.Core.Option.{Option, some}
@@ -47,16 +47,20 @@ insert-count i b free t h = ap (count true) (insert-marks i b free t h) ∙ coun
 -- ---- the numbers
 
 module _ (i : ℕ) (b : Bool) (free : List ℕ) (t : Tree) (h : i ≤ size t) (room : splits i t ≡ true → 2 ≤ length free) where
-  pub inserted : Pool.insert i b (record { tree = t; free = free }) ≡ some (record { tree = insert i b free t; free = rest (splits i t) free })
+  -- two nodes may be taken where the leaf splits
+  inserted : Pool.insert (splits i t) i b (record { tree = t; free = free }) ≡ some (record { tree = insert i b free t; free = rest (splits i t) free })
   inserted =
-      insert-outcomes (λ (o : Option Pool). o ≡ some (record { tree = insert i b free t; free = rest (splits i t) free })) i b (record { tree = t; free = free })
-      (λ e few. absurd (let two = room e in omega arith))
+      insert-outcomes (λ (o : Option Pool). o ≡ some (record { tree = insert i b free t; free = rest (splits i t) free }))
+      (splits i t) i b (record { tree = t; free = free })
+      (λ e f. let z : _≡_ {A = Bool} true false = sym e ∙ f in let n : _≡_ {A = ℕ} 0 1 = cc in absurd (omega arith))
       (λ e _. rw e)
       (λ e. rw e)
 
   pub insert-all : Rearranged (numbers t ++ free) (numbers (insert i b free t) ++ rest (splits i t) free)
   unfolding all-numbers
-  insert-all = insert-rearranged i b (record { tree = t; free = free }) (record { tree = insert i b free t; free = rest (splits i t) free }) h inserted
+  insert-all =
+      insert-rearranged (splits i t) i b (record { tree = t; free = free }) (record { tree = insert i b free t; free = rest (splits i t) free }) h room
+      inserted
 
   pub insert-alters : Balanced t → Altered t (insert i b free t) free (rest (splits i t) free)
   insert-alters balanced =

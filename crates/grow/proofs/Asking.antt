@@ -1,5 +1,5 @@
--- Whether there is room is told by the free nodes alone where there are two, and else by the leaf that the place leads to.
-use Prim.Native.Nat.{ℕ, suc, _+_, _≤_, _<_}
+-- There is room where two nodes may be taken, and else where the leaf that the place leads to does not split.
+use Prim.Native.Nat.{ℕ, suc, _+_}
 use native.Mathlib.Omega.{arith}
 use mathlib.Core.Path.{_≡_, refl}
 use mathlib.Core.Bool.{Bool, true, false, not, _&&_}
@@ -10,13 +10,13 @@ use Rattle.model.specs.Edit.{leaf-at, splits}
 use Rattle.model.specs.Pool.{Pool, full}
 use Rattle.model.proofs.Cases.{by-leb}
 
-no-room-needed : (b : Bool) → true ≡ not (b && false)
-no-room-needed true = refl
-no-room-needed false = refl
+always : (b : Bool) → true ≡ not (b && false)
+always true = refl
+always false = refl
 
-pub room-many : (i : ℕ) (p : Pool) → 2 ≤ length (p .free) → true ≡ not (full i p)
+pub room-given : (may : Bool) (i : ℕ) (p : Pool) → may ≡ true → true ≡ not (full may i p)
 unfolding full
-room-many i p h = rw (full, le-ltb (length (p .free)) 2 h) (no-room-needed (splits i (p .tree)))
+room-given may i p e = rw (full, e) (always (splits i (p .tree)))
 
 below-split : (k : ℕ) → ltb (k + 1) 128 ≡ not (leb 128 (suc k) && true)
 below-split k =
@@ -24,6 +24,6 @@ below-split k =
     (λ e h. rw (e, le-ltb (k + 1) 128 (omega arith)))
     (λ e h. rw (e, lt-ltb (k + 1) 128 (omega arith)))
 
-pub room-few : (i k : ℕ) (p : Pool) → length (p .free) < 2 → k ≡ length (leaf-at i (p .tree)) → ltb (k + 1) 128 ≡ not (full i p)
+pub room-in-leaf : (may : Bool) (i k : ℕ) (p : Pool) → may ≡ false → k ≡ length (leaf-at i (p .tree)) → ltb (k + 1) 128 ≡ not (full may i p)
 unfolding full splits
-room-few i k p h e = rw (full, splits, lt-ltb (length (p .free)) 2 h, ← e) (below-split k)
+room-in-leaf may i k p few e = rw (full, splits, few, ← e) (below-split k)

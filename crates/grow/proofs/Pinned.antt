@@ -21,7 +21,7 @@ use Rattle.grow.proofs.inserting.room.Reads as room
 use Rattle.grow.proofs.inserting.room.Kinds as room-kinds
 
 pub room-pinned : (κs : _) (a : Dens {n = 1} κs room-kinds.ps) (r r′ : _) (w w′ : _) (p : Pool)
-    → ToAsk (now (a .0)) (a .1 .0) (a .1 .1 .0) (a .1 .1 .1 .0) (a .1 .1 .1 .1 .0) p → room.Post κs a r w → room.Post κs a r′ w′ → r ≡ r′
+    → ToAsk (now (a .0)) (a .1 .0) (a .1 .1 .0) (a .1 .1 .1 .1 .0) p → room.Post κs a r w → room.Post κs a r′ w′ → r ≡ r′
 room-pinned κs a r r′ w w′ p asked one other = one p asked ∙ sym (other p asked)
 
 pub insert-pinned : (κs : _) (a : Dens {n = 1} κs insert-kinds.ps) (r r′ : _) (w w′ : _) (n end : ℕ) (t : Tree) (free : List ℕ) → Whole n (now (a .0))

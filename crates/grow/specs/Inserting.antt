@@ -29,12 +29,11 @@ with-mark f true bit =
     record { left = f .left; right = f .right; «left_total» = f .«left_total» + 1; «left_ones» = f .«left_ones» + digit bit; balance = f .balance }
 with-mark f false bit = f
 
--- a pool's tree of so many marks, so many free nodes, and a place of the tree
-pub record ToAsk (w : List ℕ) (root total count index : ℕ) (p : Pool) : Type 0 where
+-- a pool's tree of so many marks, and a place of the tree
+pub record ToAsk (w : List ℕ) (root total index : ℕ) (p : Pool) : Type 0 where
   pub rooted : Rooted w root levels (p .tree)
   pub total-is : size (p .tree) ≡ total
   pub within : index ≤ total
-  pub count-is : length (p .free) ≡ count
 
 -- A leaf that is to be put at n, of so many marks xs, and the free chain from `head` to `end` beside it: two nodes are free where the leaf has
 -- come to be too full.

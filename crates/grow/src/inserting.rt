@@ -34,12 +34,13 @@ const LEAF_HALF: u64 = 64;
 // A split takes two nodes.
 const SPLIT_NODES: u64 = 2;
 
-// Whether an insert at a place has room: two nodes are free, or its leaf does not split. Only where fewer are free the leaf is looked for.
-pub fn room(nodes: &[u64], root: u64, length: u64, count: u64, index: u64) -> bool
-    requires { ⌜ ((p : Pool) × ToAsk (now nodes) root length count index p) ⌝ }
-    ensures { λ r. ⌜ ((p : Pool) → ToAsk (now (nodes .entry)) root length count index p → r ≡ not (full index p)) ⌝ }
+// Whether an insert at a place has room: two nodes may be taken, or its leaf does not split. Only where they may not the
+// leaf is looked for.
+pub fn room(nodes: &[u64], root: u64, length: u64, may: bool, index: u64) -> bool
+    requires { ⌜ ((p : Pool) × ToAsk (now nodes) root length index p) ⌝ }
+    ensures { λ r. ⌜ ((p : Pool) → ToAsk (now (nodes .entry)) root length index p → r ≡ not (full may index p)) ⌝ }
 {
-    if SPLIT_NODES <= count {
+    if may {
         return true;
     }
     leaf_size(nodes, root, length, index) + 1 < LEAF_SPLIT

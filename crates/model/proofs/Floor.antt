@@ -7,13 +7,14 @@ use mathlib.Core.Bool.{Bool, true, false}
 use lib.ListN.{length, length-append}
 use Rattle.model.specs.Edit.{leaf-at, splits, leaf-split}
 use Rattle.model.specs.Limits.{most-leaves, most-nodes, floor-for, least-full}
-use Rattle.model.specs.Pool.{Pool, full, numbers-from}
+use Rattle.model.specs.Pool.{Pool, full, numbers-from, two-free}
 use Rattle.model.specs.Sound.{Sized, Sound, Whole, leaf-least, leaf-most, all-numbers}
 use Rattle.model.specs.Tree.{Tree, leaf, fork, size, leaf-total, numbers}
-use Rattle.model.proofs.Cases.{by-ltb, by-leb}
+use Rattle.model.proofs.Cases.{by-leb, by-ltb, by-test}
 use Rattle.model.proofs.Depth.{node-total}
 use Rattle.model.proofs.Leaves.{sized-weaken}
 use Rattle.model.proofs.NumbersFrom.{numbers-from-length}
+use Rattle.model.proofs.PoolCases.{two-free-no, two-free-yes}
 use Rattle.model.proofs.Rearranged.{rearranged-length}
 
 -- the leaf that a place leads to is within the bounds
@@ -53,24 +54,24 @@ pub sound-leaves : (n : ℕ) (p : Pool) → Sound n p → length (p .free) < 2 �
 sound-leaves n p s few = omega (arith, sound-nodes n p s, node-total (p .tree))
 
 -- no room: the leaf holds 127, and fewer than two nodes are free
-pub full-means : (least i : ℕ) (p : Pool) → Sized least (p .tree) → full i p ≡ true → (length (leaf-at i (p .tree)) ≡ 127) × (length (p .free) < 2)
+pub full-means : (least i : ℕ) (p : Pool) → Sized least (p .tree) → full (two-free p) i p ≡ true → (length (leaf-at i (p .tree)) ≡ 127) × (length (p .free) < 2)
 unfolding full splits
 full-means least i p s =
     by-leb leaf-split (suc (length (leaf-at i (p .tree))))
-    (λ e h. by-ltb (length (p .free)) 2
-    (λ f k _. (omega (arith, leaf-at-most least i (p .tree) s), k))
-    (λ f k x. never (sym (rw (full, splits, e, f) at x))))
+    (λ e h. by-test (two-free p)
+    (λ f x. never (sym (rw (full, splits, e, f) at x)))
+    (λ f _. (omega (arith, leaf-at-most least i (p .tree) s), two-free-no p f)))
     (λ e h x. never (sym (rw (full, splits, e) at x)))
   where
     never : {A : Type 0} → _≡_ {A = Bool} true false → A
     never e = let z : _≡_ {A = ℕ} 0 1 = cc in absurd (omega arith)
 
 -- and the other way round
-pub means-full : (i : ℕ) (p : Pool) → length (leaf-at i (p .tree)) ≡ 127 → length (p .free) < 2 → full i p ≡ true
+pub means-full : (i : ℕ) (p : Pool) → length (leaf-at i (p .tree)) ≡ 127 → length (p .free) < 2 → full (two-free p) i p ≡ true
 unfolding full splits
 means-full i p e few =
     by-leb leaf-split (suc (length (leaf-at i (p .tree))))
-    (λ f h. by-ltb (length (p .free)) 2 (λ g k. simp (full, splits, f, g)) (λ g k. absurd (omega arith)))
+    (λ f h. by-test (two-free p) (λ g. absurd (omega (arith, two-free-yes p g))) (λ g. simp (full, splits, f, g)))
     (λ f h. absurd (omega arith))
 
 several : (leaves s : ℕ) → 2 ≤ leaves → 33 * leaves + 62 ≤ s → floor-for leaves ≤ s
@@ -96,7 +97,7 @@ whole-sized (leaf n xs) w = w
 whole-sized (fork n l r) w = sized-weaken 0 1 (fork n l r) (omega arith) w
 
 -- an insert finds no room only in a pool that holds so many marks
-pub floor : (n i : ℕ) (p : Pool) → Sound n p → full i p ≡ true → least-full n ≤ size (p .tree)
+pub floor : (n i : ℕ) (p : Pool) → Sound n p → full (two-free p) i p ≡ true → least-full n ≤ size (p .tree)
 floor n i p s e =
     let m = full-means 0 i p (whole-sized (p .tree) (s .whole)) e in
     floor-tree i (most-leaves n) (p .tree) (s .whole) (m .0) (sound-leaves n p s (m .1))

@@ -29,14 +29,15 @@ first-two w (a ∷ []) h = absurd (omega arith)
 first-two w (a ∷ b ∷ ns) h = omega arith
 
 -- an insert that is not refused rearranges the numbers
-pub insert-rearranged : (i : ℕ) (b : Bool) (p q : Pool) → i ≤ size (p .tree) → insert i b p ≡ some q → Rearranged (all-numbers p) (all-numbers q)
+pub insert-rearranged : (may : Bool) (i : ℕ) (b : Bool) (p q : Pool) → i ≤ size (p .tree) → (may ≡ true → 2 ≤ length (p .free)) → insert may i b p ≡ some q
+    → Rearranged (all-numbers p) (all-numbers q)
 unfolding taken
-insert-rearranged i b p q h =
-    insert-outcomes (λ (o : Option Pool). o ≡ some q → Rearranged (all-numbers p) (all-numbers q)) i b p
+insert-rearranged may i b p q h two =
+    insert-outcomes (λ (o : Option Pool). o ≡ some q → Rearranged (all-numbers p) (all-numbers q)) may i b p
     (λ _ _ e. let z : _≡_ {A = ℕ} 0 1 = cc in absurd (omega arith))
-    (λ split two e w.
+    (λ split taken-two e w.
     let z : q ≡ record { tree = Edit.insert i b (p .free) (p .tree); free = drop 2 (p .free) } = cc in
-    simp (z, all-weight, insert-weight w i b (p .free) (p .tree) h, split) (omega (arith, first-two w (p .free) (omega arith))))
+    simp (z, all-weight, insert-weight w i b (p .free) (p .tree) h, split) (omega (arith, first-two w (p .free) (two taken-two))))
     (λ room e w.
     let z : q ≡ record { tree = Edit.insert i b (p .free) (p .tree); free = p .free } = cc in
     simp (z, all-weight, insert-weight w i b (p .free) (p .tree) h, room) (omega arith))
@@ -47,8 +48,9 @@ unfolding remove
 remove-rearranged i p h whole w = simp (all-weight, remove, weigh-append) (omega (arith, remove-weight w i (p .tree) h whole))
 
 -- so no number comes to stand twice
-pub insert-distinct : (i : ℕ) (b : Bool) (p q : Pool) → i ≤ size (p .tree) → insert i b p ≡ some q → Distinct (all-numbers p) → Distinct (all-numbers q)
-insert-distinct i b p q h e = rearranged-distinct (all-numbers p) (all-numbers q) (insert-rearranged i b p q h e)
+pub insert-distinct : (may : Bool) (i : ℕ) (b : Bool) (p q : Pool) → i ≤ size (p .tree) → (may ≡ true → 2 ≤ length (p .free)) → insert may i b p ≡ some q
+    → Distinct (all-numbers p) → Distinct (all-numbers q)
+insert-distinct may i b p q h two e = rearranged-distinct (all-numbers p) (all-numbers q) (insert-rearranged may i b p q h two e)
 
 -- nor by a remove
 pub remove-distinct : (i : ℕ) (p : Pool) → i < size (p .tree) → Whole (p .tree) → Distinct (all-numbers p) → Distinct (all-numbers (remove i p))

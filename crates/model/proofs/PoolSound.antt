@@ -2,7 +2,7 @@
 -- it so.
 use Prim.Native.Nat.{ℕ, _≤_, _<_}
 use mathlib.Core.Path.{_≡_, sym, _∙_}
-use mathlib.Core.Bool.{Bool}
+use mathlib.Core.Bool.{Bool, true}
 use mathlib.Core.List.{List}
 use mathlib.Core.Option.{Option, some}
 use lib.ListN.{length, drop}
@@ -44,19 +44,20 @@ build-sound n xs p e =
 -- ---- insert and remove
 
 -- the tree after an insert that has room
-pub insert-tree : (i : ℕ) (b : Bool) (p q : Pool) → insert i b p ≡ some q → q .tree ≡ Edit.insert i b (p .free) (p .tree)
-insert-tree i b p q =
-    insert-outcomes (λ (o : Option Pool). o ≡ some q → q .tree ≡ Edit.insert i b (p .free) (p .tree)) i b p
+pub insert-tree : (may : Bool) (i : ℕ) (b : Bool) (p q : Pool) → insert may i b p ≡ some q → q .tree ≡ Edit.insert i b (p .free) (p .tree)
+insert-tree may i b p q =
+    insert-outcomes (λ (o : Option Pool). o ≡ some q → q .tree ≡ Edit.insert i b (p .free) (p .tree)) may i b p
     (λ _ _ e. let z : _≡_ {A = ℕ} 0 1 = cc in absurd (omega arith))
     (λ _ _ e. let z : q ≡ record { tree = Edit.insert i b (p .free) (p .tree); free = drop 2 (p .free) } = cc in rw z)
     (λ _ e. let z : q ≡ record { tree = Edit.insert i b (p .free) (p .tree); free = p .free } = cc in rw z)
 
-pub insert-sound : (n i : ℕ) (b : Bool) (p q : Pool) → i ≤ size (p .tree) → insert i b p ≡ some q → Sound n p → Sound n q
-insert-sound n i b p q h e s =
+pub insert-sound : (n : ℕ) (may : Bool) (i : ℕ) (b : Bool) (p q : Pool) → i ≤ size (p .tree) → (may ≡ true → 2 ≤ length (p .free)) → insert may i b p ≡ some q
+    → Sound n p → Sound n q
+insert-sound n may i b p q h two e s =
     record {
-      balanced = rw (insert-tree i b p q e) (insert-balanced i b (p .free) (p .tree) (s .balanced) .balanced);
-      whole = rw (insert-tree i b p q e) (insert-whole i b (p .free) (p .tree) h (s .whole));
-      each = λ w. s .each w ∙ insert-rearranged i b p q h e w;
+      balanced = rw (insert-tree may i b p q e) (insert-balanced i b (p .free) (p .tree) (s .balanced) .balanced);
+      whole = rw (insert-tree may i b p q e) (insert-whole i b (p .free) (p .tree) h (s .whole));
+      each = λ w. s .each w ∙ insert-rearranged may i b p q h two e w;
     }
 
 pub remove-sound : (n i : ℕ) (p : Pool) → i < size (p .tree) → Sound n p → Sound n (remove i p)
@@ -69,8 +70,9 @@ remove-sound n i p h s =
     }
 
 -- and their marks are the list's
-pub insert-pool-marks : (i : ℕ) (b : Bool) (p q : Pool) → i ≤ size (p .tree) → insert i b p ≡ some q → marks (q .tree) ≡ Marks.insert i b (marks (p .tree))
-insert-pool-marks i b p q h e = rw (insert-tree i b p q e) (insert-marks i b (p .free) (p .tree) h)
+pub insert-pool-marks : (may : Bool) (i : ℕ) (b : Bool) (p q : Pool) → i ≤ size (p .tree) → insert may i b p ≡ some q
+    → marks (q .tree) ≡ Marks.insert i b (marks (p .tree))
+insert-pool-marks may i b p q h e = rw (insert-tree may i b p q e) (insert-marks i b (p .free) (p .tree) h)
 
 pub remove-pool-marks : (i : ℕ) (p : Pool) → i < size (p .tree) → marks (remove i p .tree) ≡ Marks.remove i (marks (p .tree))
 unfolding remove

@@ -47,5 +47,5 @@ pub reference : (r : Row) → List·Memᴰ r table → answer (r .question) ≡ 
 unfolding agree same table answer found sizes sizes-of shape tall turns lone-pool select place wanted further bits odd height leaves size marks top
     renumber first-leaf last-leaf turn-right turn-left higher-by leaning-left leaning-right rebalance leaf-count built-leaves round foremost rounds
     Build.build Marks.insert Marks.remove leaf-at splits settle Edit.insert put-before put-after drop-first drop-last first-mark last-mark mend-left
-    mend-right Edit.remove numbers-from nodes-for Pool.build full Pool.insert Pool.remove
+    mend-right Edit.remove numbers-from nodes-for Pool.build full Pool.two-free Pool.insert Pool.remove
 reference r m = each table tt r m

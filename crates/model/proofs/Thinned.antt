@@ -14,7 +14,7 @@ use Rattle.model.specs.Edit as Edit
 use Rattle.model.specs.Edit.{Trimmed, leaf-at, leaf-split, put-before, splits}
 use Rattle.model.specs.Sharp.{Becomes, Change, out, put}
 use Rattle.model.specs.Marks as Marks
-use Rattle.model.specs.Pool.{Pool, insert, remove}
+use Rattle.model.specs.Pool.{Pool, insert, remove, two-free}
 use Rattle.model.specs.Sound.{Balanced, Sized, Sound, leaf-least, leaf-most}
 use Rattle.model.specs.Tree.{Tree, leaf, fork, first-leaf, last-leaf, leaf-total, size}
 use Rattle.model.specs.Turn.{rebalance}
@@ -23,7 +23,7 @@ use Rattle.model.proofs.Cases.{by-leb, by-ltb, insert-cases, mend-left-
 use Rattle.model.proofs.Floor.{whole-sized}
 use Rattle.model.proofs.Leaves.{sized-size}
 use Rattle.model.proofs.MarksEdits.{length-remove}
-use Rattle.model.proofs.PoolCases.{insert-outcomes}
+use Rattle.model.proofs.PoolCases.{insert-outcomes, two-free-yes}
 use Rattle.model.proofs.PoolSound.{insert-sound, remove-sound}
 use Rattle.model.proofs.Rounds.{build-keeps}
 use Rattle.model.proofs.Shape.{alike-balanced, alike-height, put-before-shape, shape}
@@ -192,7 +192,7 @@ becomes-both (out i ∷ cs) ds p q r b d = (b .0, becomes-both cs ds (remove i p
 -- a pool stays sound
 pub becomes-sound : (n : ℕ) (cs : List Change) (p q : Pool) → Becomes cs p q → Sound n p → Sound n q
 becomes-sound n [] p q e s = rw (sym e) s
-becomes-sound n (put i x ∷ cs) p q b s = becomes-sound n cs (b .1) q (b .3) (insert-sound n i x p (b .1) (b .0) (b .2) s)
+becomes-sound n (put i x ∷ cs) p q b s = becomes-sound n cs (b .1) q (b .3) (insert-sound n (two-free p) i x p (b .1) (b .0) (two-free-yes p) (b .2) s)
 becomes-sound n (out i ∷ cs) p q b s = becomes-sound n cs (remove i p) q (b .1) (remove-sound n i p (b .0) s)
 
 remove-pool : (i : ℕ) (p : Pool) → Balanced (p .tree) → i < size (p .tree) → suc leaf-least ≤ length (leaf-at i (p .tree))
@@ -234,14 +234,14 @@ first-longer x (leaf n xs) = refl
 first-longer x (fork n l r) = first-longer x l
 
 insert-pool : (n : ℕ) (p : Pool) (x : Bool) → Sound n p → length (first-leaf (p .tree)) < leaf-most
-    → insert 0 x p ≡ some (record { tree = put-before (x ∷ []) (p .tree); free = p .free })
+    → insert (two-free p) 0 x p ≡ some (record { tree = put-before (x ∷ []) (p .tree); free = p .free })
 unfolding splits
 insert-pool n p x s h =
     let sized = whole-sized (p .tree) (s .whole) in
     let front = ap length (leaf-front 0 (p .tree) sized) in
     let short : splits 0 (p .tree) ≡ false =
     by-leb leaf-split (suc (length (leaf-at 0 (p .tree)))) (λ _ k. absurd (omega arith)) (λ e _. rw (splits, e)) in
-    insert-outcomes (λ (o : Option Pool). o ≡ some (record { tree = put-before (x ∷ []) (p .tree); free = p .free })) 0 x p
+    insert-outcomes (λ (o : Option Pool). o ≡ some (record { tree = put-before (x ∷ []) (p .tree); free = p .free })) (two-free p) 0 x p
     (λ split _. let z : _≡_ {A = ℕ} 0 1 = cc in absurd (omega arith))
     (λ split _. let z : _≡_ {A = ℕ} 0 1 = cc in absurd (omega arith))
     (λ _. ap (λ (t : Tree). some (record { tree = t; free = p .free })) (insert-front 0 x (p .free) (p .tree) sized (s .balanced) h))
@@ -271,7 +271,7 @@ fill (suc k) n p s e t =
     let put-in = insert-pool n p false s (omega arith) in
     let low : 0 ≤ size (p .tree) = omega arith in
     let long = first-longer false (p .tree) in
-    let more = fill k n next (insert-sound n 0 false p next low put-in s) (omega arith) (put-ended false (p .tree) t) in (
+    let more = fill k n next (insert-sound n (two-free p) 0 false p next low (two-free-yes p) put-in s) (omega arith) (put-ended false (p .tree) t) in (
       put 0 false ∷ more .0,
       more .1,
       (low, next, put-in, more .2),

@@ -12,12 +12,12 @@ use Rattle.model.specs.Build as Build
 use Rattle.model.specs.Edit as Edit
 use Rattle.model.specs.Edit.{splits, leaf-split, leaf-at, settle}
 use Rattle.model.specs.Marks as Marks
-use Rattle.model.specs.Pool.{Pool, build, full, insert, remove, numbers-from, nodes-for}
+use Rattle.model.specs.Pool.{Pool, build, insert, remove, numbers-from, nodes-for, two-free}
 use Rattle.model.specs.Tree.{Tree, leaf, fork, size}
 use Rattle.model.specs.Turn.{rebalance}
 use Rattle.model.proofs.Cases.{by-test, by-leb, by-ltb, insert-cases, splits-left, splits-right}
 use Rattle.model.proofs.MarksEdits.{length-insert}
-use Rattle.model.proofs.PoolCases.{build-outcomes, insert-outcomes}
+use Rattle.model.proofs.PoolCases.{build-outcomes, insert-outcomes, two-free-no, two-free-yes}
 
 -- the larger pool is the smaller one with more nodes at the end of its free chain
 pub record Wider (p q : Pool) : Type 0 where
@@ -120,20 +120,20 @@ pub data Steps (o o′ : Option Pool) : Type 0 where
 other : {A : Type 0} {b : Bool} → b ≡ true → b ≡ false → A
 other {b = b} t f = let e : _≡_ {A = Bool} true false = sym t ∙ f in let z : _≡_ {A = ℕ} 0 1 = cc in absurd (omega arith)
 
-pub insert-wider : (i : ℕ) (b : Bool) (p q : Pool) → i ≤ size (p .tree) → Wider p q → Steps (insert i b p) (insert i b q)
+pub insert-wider : (i : ℕ) (b : Bool) (p q : Pool) → i ≤ size (p .tree) → Wider p q → Steps (insert (two-free p) i b p) (insert (two-free q) i b q)
 insert-wider i b p q h w =
     let same : splits i (q .tree) ≡ splits i (p .tree) = ap (splits i) (w .tree) in
     let more : length (q .free) ≡ length (p .free) + length (w .more) = ap length (w .free) ∙ length-append (p .free) (w .more) in
-    insert-outcomes (λ (o : Option Pool). Steps o (insert i b q)) i b p
-    (λ split few. insert-outcomes (Steps none) i b q
+    insert-outcomes (λ (o : Option Pool). Steps o (insert (two-free q) i b q)) (two-free p) i b p
+    (λ split few. insert-outcomes (Steps none) (two-free q) i b q
     (λ _ _. both-full refl refl)
     (λ _ _. one-full _ refl refl)
     (λ room. other split (sym same ∙ room)))
-    (λ split two. insert-outcomes (Steps _) i b q
-    (λ _ few. absurd (omega arith))
-    (λ _ _. alike _ _ refl refl (split-wider two))
+    (λ split two. insert-outcomes (Steps _) (two-free q) i b q
+    (λ _ few. absurd (omega (arith, two-free-no q few, two-free-yes p two)))
+    (λ _ _. alike _ _ refl refl (split-wider (two-free-yes p two)))
     (λ room. other split (sym same ∙ room)))
-    (λ room. insert-outcomes (Steps _) i b q
+    (λ room. insert-outcomes (Steps _) (two-free q) i b q
     (λ split _. other (sym same ∙ split) room)
     (λ split _. other (sym same ∙ split) room)
     (λ _. alike _ _ refl refl (room-wider room)))

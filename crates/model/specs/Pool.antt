@@ -1,10 +1,10 @@
 -- A pool of numbered nodes: the tree, and the chain of free numbers beside it. Inserting asks for room first, and is refused whole where there
 -- is none; what a remove frees goes first into the chain.
 use Prim.Native.Nat.{ℕ, zero, suc, _+_, _-_, _*_}
-use mathlib.Core.Bool.{Bool, true, false, _&&_}
+use mathlib.Core.Bool.{Bool, true, false, _&&_, not}
 use mathlib.Core.List.{List, [], _∷_, _++_}
 use mathlib.Core.Option.{Option, none, some}
-use lib.Dec.{leb, ltb}
+use lib.Dec.{leb}
 use lib.ListN.{length, drop}
 use Rattle.model.specs.Tree.{Tree}
 use Rattle.model.specs.Build as Build
@@ -32,14 +32,18 @@ build n xs =
       | false ↦ none
     ]
 
--- an insert at place i has no room: its leaf would split, and fewer than two nodes are free
-unfoldable pub full : ℕ → Pool → Bool
-full i p = Edit.splits i (p .tree) && ltb (length (p .free)) 2
+-- the window's rule of room: two nodes may be taken where two are free
+unfoldable pub two-free : Pool → Bool
+two-free p = leb 2 (length (p .free))
 
--- the pool with b put in at place i, none where there is no room for it
-unfoldable pub insert : ℕ → Bool → Pool → Option Pool
-insert i b p =
-    elim (full i p) [
+-- an insert at place i has no room: its leaf would split, and two nodes may not be taken
+unfoldable pub full : Bool → ℕ → Pool → Bool
+full may i p = Edit.splits i (p .tree) && not may
+
+-- the pool with b put in at place i, none where there is no room for it; whether two nodes may be taken is the caller's rule
+unfoldable pub insert : Bool → ℕ → Bool → Pool → Option Pool
+insert may i b p =
+    elim (full may i p) [
       | true ↦ none
       | false ↦ some (record {
         tree = Edit.insert i b (p .free) (p .tree);

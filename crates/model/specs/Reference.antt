@@ -68,7 +68,7 @@ unfoldable pub answer : Question → List ℕ
 answer (place-in-word w b k) = found (select b k (bits 64 w))
 answer (built-leaves nodes n) = sizes-of (Pool.build nodes (quiet n))
 answer (built-shape n) = shape (Build.build (quiet n))
-answer (inserted nodes n) = sizes-of (Pool.insert 0 false (lone-pool nodes n))
+answer (inserted nodes n) = let p : Pool.Pool = lone-pool nodes n in sizes-of (Pool.insert (Pool.two-free p) 0 false p)
 answer (removed l r i) = sizes ((Pool.remove i (record { tree = fork 2 (leaf 0 (quiet l)) (leaf 1 (quiet r)); free = [] })) .tree)
 answer (turned a c e) = let t : Tree = fork 0 (fork 1 (tall a) (tall c)) (tall e) in turns t (turn-right t)
 

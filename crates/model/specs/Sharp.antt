@@ -8,7 +8,7 @@ use mathlib.Core.Option.{some}
 use lib.ListN.{length}
 use Rattle.model.specs.Edit.{leaf-at}
 use Rattle.model.specs.Limits.{least-full}
-use Rattle.model.specs.Pool.{Pool, build, full, insert, remove}
+use Rattle.model.specs.Pool.{Pool, build, full, insert, remove, two-free}
 use Rattle.model.specs.Sound.{Sound, leaf-most}
 use Rattle.model.specs.Tree.{size}
 
@@ -18,7 +18,7 @@ pub record Sharp (n i : ℕ) (p : Pool) : Type 0 where
   pub within : i ≤ size (p .tree)
   pub leaf-full : length (leaf-at i (p .tree)) ≡ leaf-most
   pub few-free : length (p .free) < 2
-  pub refused : full i p ≡ true
+  pub refused : full (two-free p) i p ≡ true
   pub held : size (p .tree) ≡ least-full n
 
 -- an edit: a mark put in at a place, or the one at a place taken out
@@ -29,7 +29,7 @@ pub data Change : Type 0 where
 -- the pool q is what p becomes by these edits, one after the other, each of them in range and none refused
 abbrev pub Becomes : List Change → Pool → Pool → Type 0
 Becomes [] p q = p ≡ q
-Becomes (put i b ∷ more) p q = (i ≤ size (p .tree)) × (next : Pool) × (insert i b p ≡ some next) × Becomes more next q
+Becomes (put i b ∷ more) p q = (i ≤ size (p .tree)) × (next : Pool) × (insert (two-free p) i b p ≡ some next) × Becomes more next q
 Becomes (out i ∷ more) p q = (i < size (p .tree)) × Becomes more (remove i p) q
 
 -- a build in n nodes and edits after it, by which a pool comes to such a state

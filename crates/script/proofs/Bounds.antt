@@ -9,8 +9,8 @@ use Rattle.model.specs.Tree.{marks, size}
 use Rattle.model.specs.Word.{words-for}
 use Rattle.model.proofs.Cases.{by-leb, by-ltb}
 use Rattle.tree.proofs.Output.{words-length}
-use Rattle.window.specs.Answer.{code, value}
-use Rattle.window.specs.declared.answer.Answer.the-variants.{Malformed}
+use Rattle.serve.specs.Answer.{code, value}
+use Rattle.serve.specs.declared.answer.Answer.the-variants.{Malformed}
 use Rattle.grammar.specs.Lines.{Wanted, dumping, loading, ordering, pooling, wanted}
 use Rattle.grammar.specs.Text.{newline}
 use Rattle.script.specs.Prints.{State, answered, damaged, holding, line-text, most-input, nothing, says, shown, too-long, words-text}

@@ -18,13 +18,14 @@ use Rattle.model.proofs.Cases.{by-leb, by-test}
 use Rattle.model.proofs.Depth.{node-total}
 use Rattle.model.proofs.Floor.{sound-nodes, whole-sized}
 use Rattle.tree.proofs.Output.{words-length}
-use Rattle.window.specs.Answer.{code, value}
+use Rattle.serve.specs.Answer.{code, value}
 use Rattle.window.specs.Calls.{BuildsTo, Checked, Damaged, NoPool, Ran, Valued}
 use Rattle.window.specs.Layout.{Counted, Stands}
-use Rattle.window.specs.Orders.{Asked, after, answer, answer-words, answers, asks, after-all, orders-of}
-use Rattle.window.specs.declared.answer.Answer.{Answer}
-use Rattle.window.specs.declared.answer.Answer.the-variants.{Done, NotSound, WrongSize}
-use Rattle.window.proofs.Orderly.{never}
+use Rattle.serve.specs.Orders.{Asked, asks}
+use Rattle.window.specs.Orders.{after, answer, answer-words, answers, after-all, orders-of}
+use Rattle.serve.specs.declared.answer.Answer.{Answer}
+use Rattle.serve.specs.declared.answer.Answer.the-variants.{Done, NotSound, WrongSize}
+use Rattle.serve.proofs.Orderly.{never}
 use Rattle.window.proofs.OneState.{well-at}
 use Rattle.window.proofs.Pinned.{Likely, one-layout}
 use Rattle.grammar.specs.Lines.{Wanted, dumping, loading, ordering, pooling}

@@ -7,11 +7,12 @@ use mathlib.Core.Option.{none, some}
 use lib.ListN.{length, take}
 use Rattle.model.specs.Pool as Pool
 use Rattle.model.proofs.Cases.{by-leb}
-use Rattle.window.specs.Answer.{code, value}
+use Rattle.serve.specs.Answer.{code, value}
 use Rattle.window.specs.Calls.{Valued}
-use Rattle.window.specs.Orders.{Asked, answer, asks}
-use Rattle.window.specs.declared.answer.Answer.{Answer}
-use Rattle.window.specs.declared.answer.Answer.the-variants.{Malformed}
+use Rattle.serve.specs.Orders.{Asked, asks}
+use Rattle.window.specs.Orders.{answer}
+use Rattle.serve.specs.declared.answer.Answer.{Answer}
+use Rattle.serve.specs.declared.answer.Answer.the-variants.{Malformed}
 use Rattle.window.proofs.Pinned.{cases}
 use Rattle.grammar.specs.Lines.{Reads, Wanted, dumping, loading, ordering, pooling, wanted}
 use Rattle.grammar.specs.declared.reading.Line.the-variants.{Pool as Line·Pool, Load as Line·Load, Order as Line·Order, Dump as Line·Dump, Malformed as Line·Malformed}

@@ -9,11 +9,11 @@ use Rattle.model.specs.Pool as Pool
 use Rattle.model.specs.Pool.{Pool}
 use Rattle.model.specs.Tree.{marks, size}
 use Rattle.model.specs.Word.{marks-of, words-of, words-for}
-use Rattle.window.specs.Answer.{code, value}
+use Rattle.serve.specs.Answer.{code, value}
 use Rattle.model.specs.Limits.{most-nodes}
 use Rattle.window.specs.Orders.{after, answer}
-use Rattle.window.specs.declared.answer.Answer.{Answer}
-use Rattle.window.specs.declared.answer.Answer.the-variants.{Done, Full, Malformed, WrongSize, NotSound, TooLong}
+use Rattle.serve.specs.declared.answer.Answer.{Answer}
+use Rattle.serve.specs.declared.answer.Answer.the-variants.{Done, Full, Malformed, WrongSize, NotSound, TooLong}
 use Rattle.grammar.specs.Lines.{Wanted, dumping, lines, loading, ordering, pooling, wanted}
 use Rattle.grammar.specs.Text.{decimal-text, hex-text, newline, space}
 

@@ -3,8 +3,8 @@ use Prim.Native.Nat.{ℕ}
 use mathlib.Core.Path.{_≡_}
 use mathlib.Core.List.{List}
 use mathlib.Core.Option.{Option, none, some}
-use Rattle.window.specs.Answer.{code}
-use Rattle.window.specs.declared.answer.Answer.the-variants.{Malformed}
+use Rattle.serve.specs.Answer.{code}
+use Rattle.serve.specs.declared.answer.Answer.the-variants.{Malformed}
 use Rattle.grammar.specs.Lines.{Wanted}
 use Rattle.script.specs.Prints.{State, answered, leaves}
 use Rattle.script.specs.Turns.{Played}

@@ -10,14 +10,14 @@ ghost use mathlib.Core.Option.{some};
 ghost use Prim.Native.Nat.{_≤_, _<_};
 ghost use lib.ListN.{length, take};
 ghost use Rattle.grammar.specs.Lines.{dumping, loading, ordering, pooling, wanted};
-ghost use Rattle.window.specs.Orders.{asks};
+ghost use Rattle.serve.specs.Orders.{asks};
 ghost use Rattle.script.specs.Prints.{State};
 ghost use Rattle.script.specs.Turns.{Holds, Played, Turned, extent-of};
 use grammar::Line;
 use grammar::Load;
 use grammar::Order;
 use grammar::read;
-use window::Answer;
+use serve::Answer;
 
 const NEWLINE: u8 = b'\n';
 
@@ -94,7 +94,7 @@ fn serve(pool: &mut [u64], nodes: u64, order: Order, out: &mut [u8]) -> usize
     let end = extent(nodes);
     let list = [order.number, order.second, order.third];
     let mut answer = [0u64; 2];
-    let ran = window::told(window::run(&mut pool[..end], &list, &mut answer));
+    let ran = serve::told(window::run(&mut pool[..end], &list, &mut answer));
     if ran.code != 0 {
         return tell_two(out, ran.code, ran.value);
     }
@@ -107,8 +107,8 @@ fn dump(pool: &[u64], nodes: u64, words: &mut [u64], out: &mut [u8]) -> usize
     ensures { λ r. ⌜ ((s : State) → Holds (now (pool .entry)) nodes s → Played (some dumping) s (now (pool .entry)) nodes (now (out .entry)) nodes r (now (pool .entry)) (now (out .exit))) ⌝ }
 {
     let end = extent(nodes);
-    let checked = window::told(window::check(&pool[..end]));
-    let valued = window::told(window::values(&pool[..end], words));
+    let checked = serve::told(window::check(&pool[..end]));
+    let valued = serve::told(window::values(&pool[..end], words));
     let at = put_two(out, checked.code, checked.value);
     let last = put_words(out, at, words, valued.value as usize);
     end_line(out, last)

@@ -4,12 +4,12 @@ ghost use mathlib.Core.Path.{_≡_};
 ghost use Prim.Native.Nat.{_+_, _*_, _≤_, _<_};
 ghost use lib.ListN.{length, take};
 ghost use Rattle.grammar.specs.Text.{decimal-text, over};
-ghost use Rattle.window.specs.Answer as Answers;
+ghost use Rattle.serve.specs.Answer as Answers;
 ghost use Rattle.script.specs.Prints.{line-text, words-text};
 use grammar::put_decimal;
 use grammar::put_hex;
-use window::Answer;
-use window::told;
+use serve::Answer;
+use serve::told;
 
 const SPACE: u8 = b' ';
 

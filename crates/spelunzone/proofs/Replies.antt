@@ -1,7 +1,7 @@
 -- A call's reply is told by its answer.
 use mathlib.Core.Path.{_≡_, sym, ap, _∙_}
-use Rattle.window.specs.Answer.{code, value}
-use Rattle.window.specs.declared.answer.Answer.{Answer}
+use Rattle.serve.specs.Answer.{code, value}
+use Rattle.serve.specs.declared.answer.Answer.{Answer}
 use Rattle.spelunzone.specs.Reply.{Replies}
 use Rattle.spelunzone.specs.declared.Reply.{Reply}
 

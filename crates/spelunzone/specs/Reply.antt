@@ -1,7 +1,7 @@
 -- What crosses to the host: the scope's number and value of the window's answer.
 use mathlib.Core.Path.{_≡_}
-use Rattle.window.specs.Answer.{code, value}
-use Rattle.window.specs.declared.answer.Answer.{Answer}
+use Rattle.serve.specs.Answer.{code, value}
+use Rattle.serve.specs.declared.answer.Answer.{Answer}
 use Rattle.spelunzone.specs.declared.Reply.{Reply}
 
 -- the reply is this answer

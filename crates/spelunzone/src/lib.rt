@@ -2,8 +2,8 @@
 ghost use mathlib.Core.Path.{_≡_};
 ghost use Rattle.spelunzone.specs.Reply.{Replies, Says};
 ghost use Rattle.window.specs.Calls.{BuildsTo, Checked, Ran, Valued};
-use window::Answer;
-use window::told;
+use serve::Answer;
+use serve::told;
 
 #[repr(C)]
 pub struct Reply {

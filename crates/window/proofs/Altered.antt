@@ -1,40 +1,33 @@
--- A pool that stands, with the trailer that was read: what the tree's calls may assume of its nodes, and that the changed pool stands in the words
--- that an insert or a remove leaves.
+-- A pool that stands, with the trailer that was read: what an order may assume of its nodes, and that the pool as it is afterwards stands in the words
+-- that are left.
 use Prim.Native.Nat.{ℕ, suc, _+_, _-_, _*_, _^_, _≤_, _<_}
 use native.Mathlib.Omega.{arith}
 use borrow.Rule.Slice.PartMut.{putMid}
 use mathlib.Core.Path.{_≡_, sym, ap, _∙_}
-use mathlib.Core.Bool.{Bool, false}
-use mathlib.Core.List.{List, [], _∷_, _++_, List·Memᴰ, Memᴰ·append-left, Memᴰ·append-right}
-use mir.Val.{boolByte}
+use mathlib.Core.Bool.{Bool, true}
+use mathlib.Core.List.{List, [], _∷_, _++_, List·Memᴰ}
 use lib.ListN.{length, take, drop, getD, length-drop}
 use lib.Seq.{take-all}
-use Rattle.model.specs.Edit as Edit
-use Rattle.model.specs.Pool as Pool
-use Rattle.model.specs.Pool.{Pool, numbers-from}
+use borrow.Author.Tests.{leb-true}
+use lib.Dec.{leb}
+use Rattle.model.specs.Pool.{Pool, numbers-from, two-free}
 use Rattle.model.specs.Sound.{Distinct, Sound, all-numbers}
 use Rattle.model.specs.Tree.{top, size, numbers}
-use Rattle.model.proofs.Content.{insert-size, remove-size}
 use Rattle.model.proofs.Depth.{size-bound}
 use Rattle.model.proofs.Floor.{sound-nodes}
 use Rattle.model.proofs.NumbersFrom.{numbers-from-bounds, numbers-from-distinct}
-use Rattle.model.proofs.PoolSound.{insert-sound, remove-sound}
+use Rattle.model.proofs.PoolCases.{two-free-yes}
 use Rattle.model.proofs.Rearranged.{rearranged-distinct, rearranged-member, rearranged-sym}
-use Rattle.model.proofs.Tops.{insert-top}
-use Rattle.pool.specs.Layout.{Laid, Rooted, first-of}
-use Rattle.pool.specs.declared.chain.Chain.{Chain}
-use Rattle.turn.specs.Sites.{Site}
-use Rattle.grow.specs.Inserting.{Inserted, ToAsk, ToInsertInto, rest}
-use Rattle.shrink.specs.Removing.{ToTake, Took}
-use Rattle.shrink.specs.declared.removing.Removed.{Removed}
-use Rattle.shrink.proofs.Trimming.{remove-top}
+use Rattle.pool.specs.Layout.{Laid, first-of}
+use Rattle.serve.specs.Orders.{Asked}
+use Rattle.serve.specs.Serving.{Serves, ToServe}
+use Rattle.serve.specs.declared.serving.Served as Serve
+use Rattle.serve.proofs.Orderly.{after-sound, after-still, after-top}
 use Rattle.window.specs.Layout.{Stands, trailer-of, trailer-in}
-use Rattle.window.specs.Orders.{Served, inserting, removing}
-use Rattle.window.specs.declared.answer.Answer.the-variants.{Done}
+use Rattle.window.specs.Orders.{Served, after}
 use Rattle.window.specs.declared.trailer.Trailer.{Trailer}
 use Rattle.window.proofs.Builds.{put-behind, stands-with}
 use Rattle.window.proofs.OneState.{nodes-length, stands-last, stands-length, stands-nodes, stands-root, stands-rooted}
-use Rattle.window.proofs.Orderly.{insert-done, insert-some, remove-done, room-two, with-mark}
 
 -- what a trailer says of a pool of n nodes
 pub record Known (n : ℕ) (p : Pool) (t : Trailer) : Type 0 where
@@ -78,84 +71,62 @@ module _ {ws : List ℕ} {n : ℕ} {p : Pool} (s : Stands ws n p) where
   pub few-marks : suc (size (p .tree)) < 2 ^ 32
   few-marks = let deep = stands-rooted ws n p s in omega (arith, size-bound 0 (p .tree) 12 (deep .sized) (deep .deep))
 
-  -- ---- what the calls ask
+  -- ---- what an order may assume
 
-  module _ (t : Trailer) (k : Known n p t) where
-    pub rooted : Rooted (take (n * 6) ws) (t .root) 12 (p .tree)
-    rooted = rw (k .root) (stands-rooted ws n p s)
-
-    site : Site (take (n * 6) ws) (t .root) 12 n (t .chain .first) (p .tree) (p .free)
+  pub to-serve : (t : Trailer) (may : Bool) → Known n p t → may ≡ leb 2 (t .chain .count)
+      → ToServe (take (n * 6) ws) n (record { root = t .root; length = t .length; chain = t .chain }) may p
+  to-serve t may k e = record {
     site = record {
-      rooted = rooted;
+      rooted = rw (k .root) (stands-rooted ws n p s);
       balanced = s .sound .balanced;
       whole = s .sound .whole;
       once = once;
       chained = s .nodes .chain;
       first = sym (k .first);
       few = few-marks;
-    }
+    };
+    total = sym (k .total);
+    count = sym (k .count);
+    past = none-past;
+    fits = omega (arith, k .count, sound-nodes n p (s .sound), s .counted .most);
+    two = λ yes. omega (arith, k .count, leb-true 2 (t .chain .count) (sym e ∙ yes));
+  }
 
-    pub to-ask : (i : ℕ) → i ≤ t .length → ToAsk (take (n * 6) ws) (t .root) (t .length) (t .chain .count) i p
-    to-ask i h = record { rooted = rooted; total-is = sym (k .total); within = h; count-is = sym (k .count) }
-
-    pub to-insert : (i : ℕ) → i ≤ t .length → Pool.full i p ≡ false → ToInsertInto (take (n * 6) ws) (t .root) n (t .chain) (t .length) i (p .tree) (p .free)
-    to-insert i h e = record {
-      place = record { site = site; total-is = sym (k .total); within = h; room = room-two i p e };
-      count-is = sym (k .count);
-      past = λ m. none-past (Memᴰ·append-right (numbers (p .tree)) m);
-    }
-
-    pub to-take : (i : ℕ) → i < t .length → ToTake (take (n * 6) ws) (t .root) (t .length) (t .chain) i n (p .tree) (p .free)
-    to-take i h = record {
-      below = record { site = site; total = sym (k .total); within = h };
-      count = sym (k .count);
-      past = λ m. none-past (Memᴰ·append-left (p .free) m);
-      fits = omega (arith, k .count, sound-nodes n p (s .sound), s .counted .most);
-    }
+  -- the rule that the code asks is the window's
+  pub rule : (t : Trailer) (may : Bool) → Known n p t → may ≡ leb 2 (t .chain .count) → may ≡ two-free p
+  unfolding two-free
+  rule t may k e = e ∙ ap (leb 2) (k .count)
 
 -- ---- the words afterwards
 
-module _ {ws : List ℕ} {n : ℕ} {p : Pool} (s : Stands ws n p) (t : Trailer) (k : Known n p t) (w′ six : List ℕ) where
-  -- the nodes that were lent, and then the trailer put over the old one
-  abbrev pub both : List ℕ
-  both = putMid (n * 6) (length (w′ ++ drop (n * 6) ws) - n * 6) (w′ ++ drop (n * 6) ws) six
+module _ {ws : List ℕ} {n : ℕ} {p : Pool} (s : Stands ws n p) {w′ : List ℕ} {o : Asked} {r : Serve.Served}
+    (x : Serves (take (n * 6) ws) w′ n (two-free p) o p r) where
+  laid : Laid w′ n (after o p)
+  laid = record { words = x .edited .size ∙ nodes-length ws n (s .counted); tree = x .edited .holds; chain = x .chained }
 
-  placed-behind : (q : Pool) → Laid w′ n q → Sound n q → six ≡ trailer-of n q → Stands both n q
-  placed-behind q l fine e = rw (put-behind w′ (drop (n * 6) ws) six (n * 6) (l .words)) (stands-with w′ six n q l fine (s .counted .some) (s .counted .most) e)
+  sound : Sound n (after o p)
+  sound = after-sound n (two-free p) o p (two-free-yes p) (s .sound)
 
-  pub insert-serves : (i : ℕ) (b : Bool) (r : Chain) → i ≤ t .length → Pool.full i p ≡ false
-      → Inserted (take (n * 6) ws) w′ n r (p .tree) (Edit.insert i b (p .free) (p .tree)) (p .free) (rest (Edit.splits i (p .tree)) (p .free))
-      → six ≡ t .root ∷ (t .length + 1) ∷ r .first ∷ r .count ∷ t .nodes ∷ t .last ∷ [] → Served both n (inserting i b) p (Done 0)
+  placed-behind : (six : List ℕ) → six ≡ trailer-of n (after o p) → Stands (w′ ++ six) n (after o p)
+  placed-behind six e = stands-with w′ six n (after o p) laid sound (s .counted .some) (s .counted .most) e
+
+  -- as many marks as before: the trailer is that of before
+  pub served-still : (t : Trailer) → Known n p t → r .length ≡ t .length → Served (w′ ++ drop (n * 6) ws) n o p (r .answer)
+  served-still t k e =
+      let same : after o p ≡ p = after-still (two-free p) o p (x .total ∙ e ∙ k .total) in
+      record { answered = x .answered; stands = placed-behind (drop (n * 6) ws) (s .trailer ∙ ap (trailer-of n) (sym same)) }
+
+  -- the trailer is put over the old one, behind the nodes that were lent
+  pub served-moved : (t : Trailer) (six : List ℕ) → Known n p t
+      → six ≡ t .root ∷ r .length ∷ r .chain .first ∷ r .chain .count ∷ t .nodes ∷ t .last ∷ []
+      → Served (putMid (n * 6) (length (w′ ++ drop (n * 6) ws) - n * 6) (w′ ++ drop (n * 6) ws) six) n o p (r .answer)
   unfolding trailer-of
-  insert-serves i b r h e x is =
-      let within : i ≤ size (p .tree) = omega (arith, k .total) in
-      let done = insert-done i b p within e in
-      let total : t .length + 1 ≡ size (Edit.insert i b (p .free) (p .tree)) = omega (arith, k .total, insert-size i b (p .free) (p .tree) within) in
-      let root : t .root ≡ top (Edit.insert i b (p .free) (p .tree)) = k .root ∙ sym (insert-top i b (p .free) (p .tree)) in
+  served-moved t six k is =
+      let root : t .root ≡ top (after o p .tree) = k .root ∙ sym (after-top (two-free p) o p) in
       record {
-        answered = done .0;
+        answered = x .answered;
         stands =
-            rw (done .1)
-            (placed-behind (with-mark i b p)
-            (record { words = x .edited .size ∙ nodes-length ws n (s .counted); tree = x .edited .holds; chain = x .chained })
-            (insert-sound n i b p (with-mark i b p) within (insert-some i b p e) (s .sound))
-            (is ∙ (λ j. root j ∷ total j ∷ sym (x .first) j ∷ sym (x .count-is) j ∷ k .nodes j ∷ k .last j ∷ [])));
-      }
-
-  pub remove-serves : (i : ℕ) (r : Removed) → i < t .length → Took (take (n * 6) ws) w′ n i (p .tree) (p .free) r
-      → six ≡ t .root ∷ (t .length - 1) ∷ r .chain .first ∷ r .chain .count ∷ t .nodes ∷ t .last ∷ [] → Served both n (removing i) p (Done (boolByte (r .bit)))
-  unfolding trailer-of Pool.remove
-  remove-serves i r h x is =
-      let within : i < size (p .tree) = omega (arith, k .total) in
-      let done = remove-done i p (r .bit) within (x .mark) in
-      let total : t .length - 1 ≡ size (Edit.remove i (p .tree) .tree) = omega (arith, k .total, remove-size i (p .tree) within) in
-      let root : t .root ≡ top (Edit.remove i (p .tree) .tree) = k .root ∙ sym (remove-top i (p .tree)) in
-      record {
-        answered = done .0;
-        stands =
-            rw (done .1)
-            (placed-behind (Pool.remove i p)
-            (record { words = x .edited .size ∙ nodes-length ws n (s .counted); tree = x .edited .holds; chain = x .chained })
-            (remove-sound n i p within (s .sound))
-            (is ∙ (λ j. root j ∷ total j ∷ sym (x .first) j ∷ sym (x .count) j ∷ k .nodes j ∷ k .last j ∷ [])));
+            rw (put-behind w′ (drop (n * 6) ws) six (n * 6) (laid .words))
+            (placed-behind six
+            (is ∙ (λ j. root j ∷ sym (x .total) j ∷ sym (x .first) j ∷ sym (x .count) j ∷ k .nodes j ∷ k .last j ∷ [])));
       }

@@ -28,8 +28,8 @@ use Rattle.pool.specs.Node.{nodes-in}
 use Rattle.pool.specs.Layout.{Laid, first-of}
 use Rattle.window.specs.Calls.{NoPool, BuildsTo}
 use Rattle.window.specs.Layout.{Counted, Stands, trailer-of}
-use Rattle.window.specs.declared.answer.Answer.{Answer}
-use Rattle.window.specs.declared.answer.Answer.the-variants.{Done, Full, WrongSize, TooLong}
+use Rattle.serve.specs.declared.answer.Answer.{Answer}
+use Rattle.serve.specs.declared.answer.Answer.the-variants.{Done, Full, WrongSize, TooLong}
 use Rattle.window.proofs.OneState.{counted-one, nodes-are, nodes-length, trailer-length}
 
 -- ---- the marks that are built

@@ -6,10 +6,11 @@ use mathlib.Core.List.{List, [], _∷_, _++_, append-nil, append-assoc}
 use lib.ListN.{length, drop, getD, set, length-append, length-drop, drop-of-length-le}
 use lib.Seq.{drop-cons, set-at}
 use Rattle.model.specs.Pool.{Pool}
-use Rattle.window.specs.Answer.{code, value}
+use Rattle.serve.specs.Answer.{code, value}
 use Rattle.window.specs.Layout.{Stands}
-use Rattle.window.specs.Orders.{Asked, asks, orders-of, after, answers, after-all, answer-words, Served}
-use Rattle.window.specs.declared.answer.Answer.{Answer}
+use Rattle.serve.specs.Orders.{Asked, asks}
+use Rattle.window.specs.Orders.{orders-of, after, answers, after-all, answer-words, Served}
+use Rattle.serve.specs.declared.answer.Answer.{Answer}
 
 -- ---- words
 

@@ -2,7 +2,6 @@ pub mod Altered
 pub mod Builds
 pub mod InTurn
 pub mod OneState
-pub mod Orderly
 pub mod Pinned
 pub mod Runs
 pub mod Verdicts

@@ -17,13 +17,12 @@ use Rattle.model.specs.Tree.{size}
 use Rattle.model.specs.Word.{marks-of, words-for}
 use Rattle.model.proofs.Cases.{by-ltb}
 use Rattle.build.proofs.OnePool.{laid-one}
-use Rattle.window.specs.Answer.{code, value}
+use Rattle.serve.specs.Answer.{code, value}
 use Rattle.window.specs.Calls.{NoPool, Damaged, Checked, BuildsTo, Valued, Unchanged, Ran, order-count}
 use Rattle.window.specs.Layout.{Counted, Stands, WellFormed}
 use Rattle.window.specs.Orders.{orders-of, after-all}
-use Rattle.window.specs.declared.answer.Answer.{Answer}
-use Rattle.window.specs.declared.answer.Answer.the-variants.{Done, OutOfRange, NoZeroth, TooFew, Full, Malformed, WrongSize, NotSound, ShortOutput, PartOrder, TooLong, LeafLacks}
-use Rattle.window.proofs.answer.told.Reads as told
+use Rattle.serve.specs.declared.answer.Answer.{Answer}
+use Rattle.serve.specs.declared.answer.Answer.the-variants.{Done, OutOfRange, NoZeroth, TooFew, Full, Malformed, WrongSize, NotSound, ShortOutput, PartOrder, TooLong, LeafLacks}
 use Rattle.window.proofs.calls.build.Reads as build
 use Rattle.window.proofs.calls.check.Reads as check
 use Rattle.window.proofs.calls.values.Reads as values
@@ -154,9 +153,6 @@ ran-one ws orders out a b vs us o u p q =
         by-ltb (length out) (2 * order-count orders) (λ _ k. alike (p .short n c whole k) (q .short n c whole k)) (λ _ k. f whole k))
 
 -- ---- as the source has them
-
-pub told-pinned : (κs : _) (a : _) (r r′ : _) (w w′ : _) → told.Post κs a r w → told.Post κs a r′ w′ → r ≡ r′
-told-pinned κs a r r′ w w′ p q = λ i. record { code = (p .0 ∙ sym (q .0)) i; value = (p .1 ∙ sym (q .1)) i }
 
 pub check-pinned : (κs : _) (a : _) (r r′ : _) (w w′ : _) → check.Post κs a r w → check.Post κs a r′ w′ → r ≡ r′
 check-pinned κs a r r′ w w′ p q = checked-one _ r r′ p q

@@ -8,8 +8,8 @@ use Rattle.model.specs.Pool.{Pool}
 use Rattle.window.specs.Calls.{NoPool, Unchanged, Ran, order-count}
 use Rattle.window.specs.Layout.{Counted, Stands, WellFormed}
 use Rattle.window.specs.Orders.{orders-of, answers, after-all, answer-words}
-use Rattle.window.specs.declared.answer.Answer.{Answer}
-use Rattle.window.specs.declared.answer.Answer.the-variants.{Done, WrongSize, NotSound, ShortOutput, PartOrder}
+use Rattle.serve.specs.declared.answer.Answer.{Answer}
+use Rattle.serve.specs.declared.answer.Answer.the-variants.{Done, WrongSize, NotSound, ShortOutput, PartOrder}
 use Rattle.window.proofs.OneState.{counted-one}
 
 -- an answer that leaves everything as it was

@@ -9,8 +9,8 @@ use Rattle.model.specs.Tree.{marks, size}
 use Rattle.model.specs.Word.{words-for, words-of}
 use Rattle.window.specs.Calls.{NoPool, Damaged, Checked, Valued}
 use Rattle.window.specs.Layout.{Counted, Stands, WellFormed}
-use Rattle.window.specs.declared.answer.Answer.{Answer}
-use Rattle.window.specs.declared.answer.Answer.the-variants.{Done, WrongSize, NotSound, ShortOutput}
+use Rattle.serve.specs.declared.answer.Answer.{Answer}
+use Rattle.serve.specs.declared.answer.Answer.the-variants.{Done, WrongSize, NotSound, ShortOutput}
 use Rattle.window.proofs.OneState.{one-state}
 
 module _ (ws : List ℕ) where

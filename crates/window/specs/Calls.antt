@@ -13,8 +13,8 @@ use Rattle.window.specs.Layout.{Counted, Stands, WellFormed, trailer-in}
 use Rattle.window.specs.Orders.{orders-of, answers, after-all, answer-words}
 use Rattle.window.specs.declared.calls.Judgement.{Judgement}
 use Rattle.window.specs.declared.calls.Judgement.the-variants.{Stands as Stands′, Damaged as Damaged′}
-use Rattle.window.specs.declared.answer.Answer.{Answer}
-use Rattle.window.specs.declared.answer.Answer.the-variants.{Done, Full, WrongSize, NotSound, ShortOutput, PartOrder, TooLong}
+use Rattle.serve.specs.declared.answer.Answer.{Answer}
+use Rattle.serve.specs.declared.answer.Answer.the-variants.{Done, Full, WrongSize, NotSound, ShortOutput, PartOrder, TooLong}
 
 -- no pool has so many words
 abbrev pub NoPool : List ℕ → Type 0

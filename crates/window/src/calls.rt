@@ -1,8 +1,8 @@
 // The calls, each with its tests in the scope's sequence. A refusal leaves every lent word as it was.
-use crate::answer::Answer;
 use crate::trailer::Trailer;
 use crate::trailer::set_trailer;
 use crate::trailer::trailer_of;
+use serve::Answer;
 use sound::sound;
 use tree::words_for;
 ghost use Prim.Native.Nat.{_*_, _<_};

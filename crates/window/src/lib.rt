@@ -1,13 +1,9 @@
 // The window's calls on a pool of words: check, build, values and run. Only this crate knows the trailer.
-mod answer;
 mod calls;
 mod running;
 mod serving;
 mod trailer;
 
-pub use answer::Answer;
-pub use answer::TwoWords;
-pub use answer::told;
 pub use calls::build;
 pub use calls::check;
 pub use calls::values;

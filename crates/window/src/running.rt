@@ -7,12 +7,12 @@ ghost use Rattle.model.specs.Pool.{Pool};
 ghost use Rattle.window.specs.Calls.{Ran};
 ghost use Rattle.window.specs.Layout.{Stands};
 ghost use Rattle.window.specs.Orders.{after-all, answer-words, answers, orders-of};
-use crate::answer::Answer;
-use crate::answer::told;
 use crate::calls::Judgement;
 use crate::calls::judged;
 use crate::calls::nodes_of;
 use crate::serving::served;
+use serve::Answer;
+use serve::told;
 
 // The words of an order, and of an answer.
 const ORDER_WORDS: usize = 3;

@@ -2,12 +2,12 @@
 ghost use Prim.Native.Nat.{_+_, _≤_};
 ghost use lib.ListN as ListN;
 use crate::bytes::put_word;
-use window::Answer;
+use serve::Answer;
 
 pub fn put_answer(told: &mut [u8], at: usize, answer: Answer)
     requires { ⌜ at + 16 ≤ ListN.length (now told) ⌝ }
 {
-    let words = window::told(answer);
+    let words = serve::told(answer);
     put_word(told, at, words.code);
     put_word(told, at + 8, words.value);
 }

@@ -25,7 +25,7 @@ use answers::put_answer;
 use bytes::put_words;
 use bytes::read_words;
 use bytes::word_at;
-use window::Answer;
+use serve::Answer;
 
 const MOST_POOL: usize = 6150;
 

@@ -3,7 +3,7 @@ use borrow.Author.Needs.{needs}
 use Prim.Native.Nat.{ℕ}
 use mathlib.Core.Path.{_∙_}
 use mathlib.Core.Option.{bind, some}
-use Rattle.window.specs.Orders.{asks}
+use Rattle.serve.specs.Orders.{asks}
 use Rattle.grammar.specs.Lines.{ordering}
 use Rattle.grammar.proofs.Asking.{nothing-is, one-number-is, value-is}
 use Rattle.grammar.proofs.reading.at_place.Statement.{statement}

@@ -5,7 +5,7 @@ use mathlib.Core.List.{[], _∷_}
 use mathlib.Core.Option.{none}
 use denote.Enum.Declared.{tagOf}
 use types.Run.{OneOf, miss}
-use Rattle.window.specs.Orders.{asks, with-zero}
+use Rattle.serve.specs.Orders.{asks, with-zero}
 use Rattle.grammar.specs.Lines.{line-of, load-of, no-field, one-number, two-numbers}
 use Rattle.grammar.specs.declared.fields.Name.{Name}
 use Rattle.grammar.specs.declared.fields.Name.the-variants.{Pool, Load, Insert, Remove, Get, Rank, Select, Gap, Dump, Other}

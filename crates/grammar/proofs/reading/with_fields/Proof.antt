@@ -1,7 +1,7 @@
 -- `grammar::reading::with_fields` meets its contract, name by name. Assumes nothing.
 use borrow.Author.Needs.{needs}
 use mathlib.Core.Option.{none, some}
-use Rattle.window.specs.Orders.{asks, quiet, with-zero}
+use Rattle.serve.specs.Orders.{asks, quiet, with-zero}
 use Rattle.grammar.specs.Lines.{dumping, line-of, ordering}
 use Rattle.grammar.proofs.Asking.{insert-line, rank-line, select-line, some-field}
 use Rattle.grammar.proofs.reading.with_fields.Statement.{statement}

@@ -1,12 +1,12 @@
--- With two nodes free there is room for any insert; else the leaf that the place leads to tells whether it splits. Assumes nothing.
+-- Where two nodes may be taken there is room for any insert; else the leaf that the place leads to tells whether it splits. Assumes nothing.
 use native.Mathlib.Omega.{arith}
 use Rattle.model.proofs.Floor.{leaf-at-most}
-use Rattle.grow.proofs.Asking.{room-many, room-few}
+use Rattle.grow.proofs.Asking.{room-given, room-in-leaf}
 use Rattle.grow.proofs.inserting.room.Statement.{statement}
 use Rattle.grow.proofs.inserting.room.Tie as tie
 
 returns : tie.Need-returns
-returns c = λ p a. room-many (c .before .before .args .index) p (omega (arith, a .count-is))
+returns c = λ p a. room-given _ (c .before .before .args .index) p (c .if1 .taken)
 
 leaf-size-requires : tie.Need-leaf-size-requires
 leaf-size-requires c κs = let p = c .before .before .pre in (p .0 .tree, p .1 .rooted, p .1 .total-is, p .1 .within)
@@ -19,7 +19,7 @@ add-result c =
 
 returns-2 : tie.Need-returns-2
 returns-2 c = λ p a.
-    room-few (c .before .before .before .args .index) _ p (omega (arith, a .count-is, c .before .if1 .left))
+    room-in-leaf _ (c .before .before .before .args .index) _ p (c .before .if1 .left)
     (c .leaf-size .ensures (p .tree) (a .rooted) (a .total-is) (a .within))
 
 pub room-spec : {M : Type 1} → statement M

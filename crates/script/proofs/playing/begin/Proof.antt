@@ -7,7 +7,7 @@ use mathlib.Core.Path.{_≡_, sym, _∙_}
 use denote.Ref.{now}
 use lib.ListN.{drop}
 use lib.Seq.{length-take-le}
-use Rattle.window.specs.declared.answer.Answer.the-variants.{Done, WrongSize}
+use Rattle.serve.specs.declared.answer.Answer.the-variants.{Done, WrongSize}
 use Rattle.grammar.specs.Lines.{pooling}
 use Rattle.script.specs.Prints.{sized}
 use Rattle.script.specs.Turns.{extent-of}

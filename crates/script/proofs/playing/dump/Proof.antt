@@ -7,7 +7,7 @@ use mathlib.Core.Path.{_≡_, sym, ap, _∙_}
 use denote.Ref.{now}
 use lib.ListN.{length, take}
 use lib.Seq.{length-take-le}
-use Rattle.window.specs.Answer.{code, value}
+use Rattle.serve.specs.Answer.{code, value}
 use Rattle.grammar.specs.Lines.{dumping}
 use Rattle.script.specs.Prints.{words-text}
 use Rattle.script.proofs.Effects.{dump-did, extent-most}

@@ -6,7 +6,7 @@ use mathlib.Core.Path.{refl, sym, _∙_}
 use denote.Ref.{now}
 use lib.ListN.{drop}
 use lib.Seq.{length-take-le}
-use Rattle.window.specs.Orders.{asks}
+use Rattle.serve.specs.Orders.{asks}
 use Rattle.script.specs.Prints.{State}
 use Rattle.script.specs.Turns.{Holds, extent-of}
 use Rattle.script.proofs.Effects.{Ordered, extent-most, order-did}

@@ -1,7 +1,7 @@
 -- The scope's number and value for each answer. A refusal has the value 0.
 use Prim.Native.Nat.{ℕ}
-use Rattle.window.specs.declared.answer.Answer.{Answer}
-use Rattle.window.specs.declared.answer.Answer.the-variants.{Done, OutOfRange, NoZeroth, TooFew, Full, Malformed, WrongSize, NotSound, ShortOutput, PartOrder, TooLong, LeafLacks}
+use Rattle.serve.specs.declared.answer.Answer.{Answer}
+use Rattle.serve.specs.declared.answer.Answer.the-variants.{Done, OutOfRange, NoZeroth, TooFew, Full, Malformed, WrongSize, NotSound, ShortOutput, PartOrder, TooLong, LeafLacks}
 
 unfoldable pub code : Answer → ℕ
 code (Done v) = 0

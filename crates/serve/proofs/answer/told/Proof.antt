@@ -1,11 +1,11 @@
 -- Each answer by its number; a refusal has the value 0. Assumes nothing.
 use borrow.Author.Needs.{needs}
 use mathlib.Core.Path.{_≡_, refl, sym, ap, _∙_}
-use Rattle.window.specs.Answer.{code, value}
-use Rattle.window.specs.declared.answer.Answer.{Answer}
-use Rattle.window.specs.declared.answer.TwoWords.{TwoWords}
-use Rattle.window.proofs.answer.told.Statement.{statement}
-use Rattle.window.proofs.answer.told.Tie as tie
+use Rattle.serve.specs.Answer.{code, value}
+use Rattle.serve.specs.declared.answer.Answer.{Answer}
+use Rattle.serve.specs.declared.answer.TwoWords.{TwoWords}
+use Rattle.serve.proofs.answer.told.Statement.{statement}
+use Rattle.serve.proofs.answer.told.Tie as tie
 
 -- the answer is found to be b, and b is told
 found : (a b : Answer) (r : TwoWords) → a ≡ b → (r .code ≡ code b) × (r .value ≡ value b) → (r .code ≡ code a) × (r .value ≡ value a)

@@ -1,6 +1,6 @@
 // What a call or an order answers. The scope's number and value for each case are given in specs/Answer.antt.
 ghost use mathlib.Core.Path.{_≡_};
-ghost use Rattle.window.specs.Answer.{code, value};
+ghost use Rattle.serve.specs.Answer.{code, value};
 
 pub enum Answer {
     Done(u64),

@@ -1,0 +1,4 @@
+pub mod Asking
+pub mod Edits
+pub mod Orderly
+pub mod Pinned
