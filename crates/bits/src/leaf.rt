@@ -1,5 +1,6 @@
-// A leaf of the tree: up to 128 marks in two words, the first mark the lowest bit of `low`, and zeros past the last mark.
-// Each edit hands the new leaf back. Every method takes any leaf and any numbers: a place past bit 127 is where nothing is done.
+// A leaf of the tree: up to 128 marks in two words, the first mark the lowest bit of `low`, and zeros past the last
+// mark. Each edit hands the new leaf back. Every method takes any leaf and any numbers: a place past bit 127 is where
+// nothing is done.
 use crate::count::ones64;
 ghost use mathlib.Core.Bool.{true};
 ghost use mathlib.Core.List.{[], _++_, _∷_};

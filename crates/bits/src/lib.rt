@@ -1,4 +1,5 @@
-// A word's k-th bit, and the leaf of two words with its edits. Bits count from the lowest, and a word is the list of its bits.
+// A word's k-th bit, and the leaf of two words with its edits. Bits count from the lowest, and a word is the list of
+// its bits.
 mod count;
 mod leaf;
 mod select;

@@ -1,5 +1,5 @@
-// The place of the k-th bit of a word, k from 1, at 32, 64 and 128 bits. The masked sums tell how many bits are set in each byte, half byte
-// and pair; a loop finds the byte, and three steps find the bit in it.
+// The place of the k-th bit of a word, k from 1, at 32, 64 and 128 bits. The masked sums tell how many bits are set in
+// each byte, half byte and pair; a loop finds the byte, and three steps find the bit in it.
 use crate::count::ones32;
 use crate::count::ones64;
 ghost use mathlib.Core.List.{_++_};

@@ -1,7 +1,7 @@
 // Answers requests on standard input by the library `bits`, so that its answers can be held to the published Rust's. A
-// request is six words, the operation and five arguments, and its answer four words; a word is eight bytes, low byte first,
-// and what is not used is 0. It stops at the end of the input, or at a part of a request. The files stdin and stdout beside
-// src/ are what `bits_vectors sample stdin stdout` of the folder oracle makes.
+// request is six words, the operation and five arguments, and its answer four words; a word is eight bytes, low byte
+// first, and what is not used is 0. It stops at the end of the input, or at a part of a request. The files stdin and
+// stdout beside src/ are what `bits_vectors sample stdin stdout` of the folder oracle makes.
 ghost use Prim.Native.Nat.{_+_, _*_, _≤_, _<_};
 ghost use lib.ListN.{length};
 ghost use Rattle.io.specs.Counts.{Counts};
@@ -110,8 +110,8 @@ fn of_number(number: u64) -> Answer {
     Answer(number, 0, 0, 0)
 }
 
-// The arguments of each operation, and its answer. A bit is set by any word but 0, and of a word of 32 bits the upper half
-// is not looked at.
+// The arguments of each operation, and its answer. A bit is set by any word but 0, and of a word of 32 bits the upper
+// half is not looked at.
 //
 //     1 select32        word, bit, k                               1 and the place, or 0
 //     2 select64        word, bit, k                               1 and the place, or 0
@@ -171,7 +171,8 @@ fn turn() -> bool {
     io::write_all(libc::STDOUT_FILENO, &told[..end]) && got == ASKED
 }
 
-// A loop has to end, and nothing says that the input does. So the turns are counted down, from a number that no run uses up.
+// A loop has to end, and nothing says that the input does. So the turns are counted down, from a number that no run
+// uses up.
 fn main() {
     let mut turns = u64::MAX;
     while turns > 0 && turn() {

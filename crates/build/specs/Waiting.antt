@@ -1,4 +1,5 @@
--- What the builder goes through: the trees that wait to be joined, what it remembers of each, and what each of its steps asks and leaves.
+-- What the builder goes through: the trees that wait to be joined, what it remembers of each, and what each of its
+-- steps asks and leaves.
 use Prim.Native.Nat.{ℕ, zero, suc, _+_, _-_, _*_, _/_, _^_, _≤_, _<_, max}
 use mathlib.Core.Path.{_≡_}
 use mathlib.Core.Bool.{Bool, true}

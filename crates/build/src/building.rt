@@ -1,5 +1,6 @@
-// Building a tree from words: leaves of 64 marks from the left, then rounds that join pairs from the right end. Leaves take the
-// numbers from 0 on, forks the next ones as they are made, and the numbers that are left form the free chain upward.
+// Building a tree from words: leaves of 64 marks from the left, then rounds that join pairs from the right end. Leaves
+// take the numbers from 0 on, forks the next ones as they are made, and the numbers that are left form the free chain
+// upward.
 use bits::Leaf;
 use pool::Chain;
 use pool::Fork;
@@ -161,8 +162,8 @@ fn joined(nodes: &mut [u64], n: u64, left: Item, right: Item) -> Item
     }
 }
 
-// One round on the first `count` trees, two or more, the rightmost first: pairs are joined while four or more are left, then the last pair,
-// and an odd first tree joins, as left child, that pair. The forks take the numbers from `next` on.
+// One round on the first `count` trees, two or more, the rightmost first: pairs are joined while four or more are left,
+// then the last pair, and an odd first tree joins, as left child, that pair. The forks take the numbers from `next` on.
 fn round(nodes: &mut [u64], items: [Item; 512], count: u64, next: u64) -> [Item; 512]
     requires { ⌜ (2 ≤ count) × Ready (now nodes) items count next ⌝ }
     ensures { λ r. ⌜ Rounded (now (nodes .entry)) (now (nodes .exit)) items r count next ⌝ }

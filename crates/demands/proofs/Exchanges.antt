@@ -1,6 +1,6 @@
--- The promises of one order among others. For a user: look at an order anywhere in a list that was run, at its answer, and at the pool's words before it and
--- after it. If it was refused the words are the same. If it was answered 4, it is an insert that found no room, and every such insert is answered so. All else
--- is what the plain list says.
+-- The promises of one order among others. For a user: look at an order anywhere in a list that was run, at its answer,
+-- and at the pool's words before it and after it. If it was refused the words are the same. If it was answered 4, it is
+-- an insert that found no room, and every such insert is answered so. All else is what the plain list says.
 use Prim.Native.Nat.{ℕ, zero, suc, _+_, _-_, _*_, _%_, _≤_, _<_}
 use native.Mathlib.Omega.{arith}
 use mathlib.Core.Path.{_≡_, refl, sym, ap, ap₂, _∙_}
@@ -50,11 +50,19 @@ module _ {ws : List ℕ} {n : ℕ} {p : Pool} (s : Stands ws n p) where
   -- no room, in words and in the model
   pub roomless : (i : ℕ) → NoRoom ws p i → Roomless i p
   roomless i r =
-      record { in-range = omega (arith, trailer-length, r .in-range); leaf-full = omega (arith, r .leaf-full); few-free = omega (arith, trailer-free, r .few-free) }
+      record {
+        in-range = omega (arith, trailer-length, r .in-range);
+        leaf-full = omega (arith, r .leaf-full);
+        few-free = omega (arith, trailer-free, r .few-free);
+      }
 
   pub no-room-in : (i : ℕ) → Roomless i p → NoRoom ws p i
   no-room-in i r =
-      record { in-range = omega (arith, trailer-length, r .in-range); leaf-full = omega (arith, r .leaf-full); few-free = omega (arith, trailer-free, r .few-free) }
+      record {
+        in-range = omega (arith, trailer-length, r .in-range);
+        leaf-full = omega (arith, r .leaf-full);
+        few-free = omega (arith, trailer-free, r .few-free);
+      }
 
 -- ---- an order, by the pool that stands before it
 

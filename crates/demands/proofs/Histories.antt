@@ -1,5 +1,6 @@
--- The promises over a history. For a user: whatever was built and run, all that was answered is what a plain list of bits answers, or 4, 0; what check
--- tells and values writes is that list; and a larger slice answers the same until the smaller one is full.
+-- The promises over a history. For a user: whatever was built and run, all that was answered is what a plain list of
+-- bits answers, or 4, 0; what check tells and values writes is that list; and a larger slice answers the same until the
+-- smaller one is full.
 use Prim.Native.Nat.{ℕ, _+_, _-_, _*_, _%_, _≤_, _<_}
 use native.Mathlib.Omega.{arith}
 use mathlib.Core.Path.{_≡_, refl, sym, ap, ap₂, _∙_}
@@ -46,7 +47,8 @@ module _ {slice words : List ℕ} {len : ℕ} {lists : List (List ℕ)} {ws told
 
 -- ---- orders on a pool that was built, so answered
 
-module _ {slice words : List ℕ} {len : ℕ} {begun orders ws told : List ℕ} (b : Built slice words len begun) (m : Means (b .nodes) (b .pool) orders ws told) where
+module _ {slice words : List ℕ} {len : ℕ} {begun orders ws told : List ℕ} (b : Built slice words len begun)
+    (m : Means (b .nodes) (b .pool) orders ws told) where
   -- what the plain list has become
   abbrev end-marks : List Bool
   end-marks = carried-out (log orders told) (given words len)

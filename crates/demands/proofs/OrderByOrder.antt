@@ -74,7 +74,8 @@ by-kind {P = P} n x y ins rem ask unk = kinds n x y ins rem ask unk
     kinds (suc (suc (suc (suc (suc (suc (suc n))))))) x y ins rem ask unk = unk refl
 
 -- an insert has room or has none
-pub by-room : {P : Type 0} (i : ℕ) (b : Bool) (p : Pool) → (Pool.full (two-free p) i p ≡ true → Pool.insert (two-free p) i b p ≡ none → P) → ((q : Pool) → Pool.full (two-free p) i p ≡ false → Pool.insert (two-free p) i b p ≡ some q → P) → P
+pub by-room : {P : Type 0} (i : ℕ) (b : Bool) (p : Pool) → (Pool.full (two-free p) i p ≡ true → Pool.insert (two-free p) i b p ≡ none → P)
+    → ((q : Pool) → Pool.full (two-free p) i p ≡ false → Pool.insert (two-free p) i b p ≡ some q → P) → P
 unfolding Pool.insert
 by-room i b p f g =
     by-test (Pool.full (two-free p) i p)

@@ -23,8 +23,8 @@ pub record TellsFull (e : Entry) : Type 0 where
   pub code : e .code ≡ full
   pub value : e .value ≡ 0
 
--- The answers follow the plain list xs, which is ys in the end. Each is the list's own, and the list goes on from there; or it is
--- 4, 0, and the list stays as it was.
+-- The answers follow the plain list xs, which is ys in the end. Each is the list's own, and the list goes on from
+-- there; or it is 4, 0, and the list stays as it was.
 abbrev pub Follows : List Entry → List Bool → List Bool → Type 0
 Follows [] xs ys = ys ≡ xs
 Follows (e ∷ es) xs ys =
@@ -40,8 +40,8 @@ abbrev pub AllRefused : List Entry → Type 0
 AllRefused [] = Unit {0}
 AllRefused (e ∷ es) = (e .code ≡ 0 → ⊥) × AllRefused es
 
--- The answers of a smaller pool and of a larger one agree, or the first that differs is 4, 0 from the smaller, and is not 4 from
--- the larger.
+-- The answers of a smaller pool and of a larger one agree, or the first that differs is 4, 0 from the smaller, and is
+-- not 4 from the larger.
 abbrev pub AgreeOrFull : List Entry → List Entry → Type 0
 AgreeOrFull [] [] = Unit {0}
 AgreeOrFull [] (f ∷ fs) = ⊥

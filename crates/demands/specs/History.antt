@@ -1,5 +1,6 @@
--- What a host does with one window, in the words that it lends and reads: it builds, and then runs list after list. Only calls
--- that were accepted are told here, those that were answered 0; a call that is refused changes no word, so it may be left out.
+-- What a host does with one window, in the words that it lends and reads: it builds, and then runs list after list.
+-- Only calls that were accepted are told here, those that were answered 0; a call that is refused changes no word, so
+-- it may be left out.
 use Prim.Native.Nat.{ℕ, _+_, _-_, _*_}
 use mathlib.Core.Path.{_≡_}
 use mathlib.Core.List.{List, [], _∷_, _++_}
@@ -41,8 +42,8 @@ log (n ∷ x ∷ y ∷ orders) (c ∷ v ∷ told) =
 
 -- ---- runs
 
--- A list of orders was run on the words ws and accepted: the words are ws′ then, and `told` are the answers, which stand first in
--- the output, two words for each order. What the output was before does not matter.
+-- A list of orders was run on the words ws and accepted: the words are ws′ then, and `told` are the answers, which
+-- stand first in the output, two words for each order. What the output was before does not matter.
 pub record Accepted (ws orders ws′ told : List ℕ) : Type 0 where
   pub out : List ℕ
   pub out′ : List ℕ
@@ -61,8 +62,8 @@ unfoldable pub all-orders : List (List ℕ) → List ℕ
 all-orders [] = []
 all-orders (orders ∷ lists) = orders ++ all-orders lists
 
--- A window was built in the lent words `slice`, from the first marks of some words, so many; then these lists were run. The words
--- are ws now, and `told` is all that was answered.
+-- A window was built in the lent words `slice`, from the first marks of some words, so many; then these lists were run.
+-- The words are ws now, and `told` is all that was answered.
 pub record History (slice words : List ℕ) (len : ℕ) (lists : List (List ℕ)) (ws told : List ℕ) : Type 0 where
   pub begun : List ℕ
   pub built : BuildsTo slice words len (Done len) begun
@@ -79,9 +80,9 @@ pub record Exchange : Type 0 where
 abbrev pub order-words : Entry → List ℕ
 order-words e = e .number ∷ e .second ∷ e .third ∷ []
 
--- It is one of the orders of an accepted run on the words ws: `front` are the orders before it, `back` those behind it. The words
--- before it are those that a run of the front leaves, the words after it those that a run leaves which ends with it; its answer
--- stands in the output at its place. (A run is accepted on well-formed words alone.)
+-- It is one of the orders of an accepted run on the words ws: `front` are the orders before it, `back` those behind it.
+-- The words before it are those that a run of the front leaves, the words after it those that a run leaves which ends
+-- with it; its answer stands in the output at its place. (A run is accepted on well-formed words alone.)
 pub record InRun (ws : List ℕ) (e : Exchange) : Type 0 where
   pub well-formed : WellFormed ws
   pub front : List ℕ

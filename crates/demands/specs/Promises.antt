@@ -1,6 +1,6 @@
--- What is promised, each sentence as a statement of the calls: of the words that a host lends, and of the codes and values that it
--- reads. What a call answers and leaves is said in window/specs/Calls.antt, how a pool stands in words in window/specs/Layout.antt.
--- The proofs are cited in proofs/Kept.antt.
+-- What is promised, each sentence as a statement of the calls: of the words that a host lends, and of the codes and
+-- values that it reads. What a call answers and leaves is said in window/specs/Calls.antt, how a pool stands in words
+-- in window/specs/Layout.antt. The proofs are cited in proofs/Kept.antt.
 use Prim.Native.Nat.{ℕ, _+_, _≤_, _<_}
 use mathlib.Core.Path.{_≡_}
 use mathlib.Core.Bool.{Bool}
@@ -61,14 +61,15 @@ RefusedListChangesNoWord =
 
 -- ---- 2: answers and marks are those of a plain list of bits
 
--- over a history every order has its answer, and it is that of the plain list, which began with the marks of the build; or it is
--- 4, 0, and the list stays
+-- over a history every order has its answer, and it is that of the plain list, which began with the marks of the build;
+-- or it is 4, 0, and the list stays
 abbrev pub AnswersAreTheLists : Type 0
 AnswersAreTheLists =
     (slice words : List ℕ) (len : ℕ) (lists : List (List ℕ)) (ws told : List ℕ)
     → History slice words len lists ws told
     → (length (log (all-orders lists) told) ≡ order-count (all-orders lists))
-    × Follows (log (all-orders lists) told) (given words len) (carried-out (log (all-orders lists) told) (given words len))
+    × Follows (log (all-orders lists) told) (given words len)
+    (carried-out (log (all-orders lists) told) (given words len))
 
 -- where no answer is 4, every word that was answered is the plain list's
 abbrev pub WithRoomAllIsTheLists : Type 0
@@ -82,8 +83,8 @@ pub record Inserts (e : Entry) : Type 0 where
   pub number : e .number ≡ 1
   pub bit : e .third ≤ 1
 
--- an insert at place i finds no room in the words ws of a pool p: the place is at most the length, the leaf that it leads to holds
--- 127 marks, and the trailer counts fewer than two free nodes
+-- an insert at place i finds no room in the words ws of a pool p: the place is at most the length, the leaf that it
+-- leads to holds 127 marks, and the trailer counts fewer than two free nodes
 pub record NoRoom (ws : List ℕ) (p : Pool) (i : ℕ) : Type 0 where
   pub in-range : i ≤ trailer ws .length
   pub leaf-full : length (leaf-at i (p .tree)) ≡ leaf-most
@@ -119,26 +120,28 @@ NoFullBelow16958 =
     → length slice ≡ 6144 → History slice words len lists ws told → InRun ws e → e .entry .code ≡ full
     → 16958 ≤ trailer (e .before) .length
 
--- no greater number can be promised: for every count of nodes there are a build and orders after which a sound pool holds
--- exactly so many marks and has no room for an insert
+-- no greater number can be promised: for every count of nodes there are a build and orders after which a sound pool
+-- holds exactly so many marks and has no room for an insert
 abbrev pub FloorIsSharp : Type 0
 FloorIsSharp =
     (n : ℕ) → 1 ≤ n
-    → (xs : List Bool) × (p : Pool) × (os : List Asked) × (i : ℕ) × (Pool.build n xs ≡ some p) × Sound n (after-all os p)
-    × (length (marks (after-all os p .tree)) ≡ least-full n) × ((b : Bool) → answer (inserting i b) (after-all os p) ≡ Full)
+    → (xs : List Bool) × (p : Pool) × (os : List Asked) × (i : ℕ)
+    × (Pool.build n xs ≡ some p) × Sound n (after-all os p)
+    × (length (marks (after-all os p .tree)) ≡ least-full n)
+    × ((b : Bool) → answer (inserting i b) (after-all os p) ≡ Full)
 
 -- ---- 4: nothing is lost
 
--- by count: what check tells after a history, and the removes answered 0, are as many as the marks of the build and the inserts
--- answered 0
+-- by count: what check tells after a history, and the removes answered 0, are as many as the marks of the build and the
+-- inserts answered 0
 abbrev pub NothingLostByCount : Type 0
 NothingLostByCount =
     (slice words : List ℕ) (len : ℕ) (lists : List (List ℕ)) (ws told : List ℕ) (count : ℕ)
     → History slice words len lists ws told → Checked ws (Done count)
     → count + done 2 (log (all-orders lists) told) ≡ len + done 1 (log (all-orders lists) told)
 
--- by marks: what values writes after a history are the marks of the build with exactly the orders answered 0 carried out on the
--- plain list, one after the other
+-- by marks: what values writes after a history are the marks of the build with exactly the orders answered 0 carried
+-- out on the plain list, one after the other
 abbrev pub NothingLostByMarks : Type 0
 NothingLostByMarks =
     (slice words : List ℕ) (len : ℕ) (lists : List (List ℕ)) (ws told out : List ℕ) (k : ℕ) (out′ : List ℕ)
@@ -156,15 +159,16 @@ DoneIsDone =
 
 -- ---- 5: a quiet storm and a full queue never look the same
 
--- an order is answered 4 exactly where it is an insert that finds no room; and whatever is not answered 4 is answered what the list
--- answers, and leaves the marks that it leaves
+-- an order is answered 4 exactly where it is an insert that finds no room; and whatever is not answered 4 is answered
+-- what the list answers, and leaves the marks that it leaves
 abbrev pub FullIsTold : Type 0
 FullIsTold =
     (ws : List ℕ) (e : Exchange) (n : ℕ) (p : Pool) → InRun ws e → Stands (e .before) n p
     → (e .entry .code ≡ full → Inserts (e .entry) × NoRoom (e .before) p (e .entry .second))
     × (Inserts (e .entry) → NoRoom (e .before) p (e .entry .second) → e .entry .code ≡ full)
     × ((e .entry .code ≡ full → ⊥)
-    → ListAnswers (e .entry) (marks (p .tree)) × HoldsMarks (e .after) (list-after (asked (e .entry)) (marks (p .tree))))
+    → ListAnswers (e .entry) (marks (p .tree))
+    × HoldsMarks (e .after) (list-after (asked (e .entry)) (marks (p .tree))))
 
 -- ---- 6: codes, and lists that are cut
 

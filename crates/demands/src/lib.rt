@@ -1,1 +1,2 @@
-// What is promised of the orders, as theorems over the definitions that the calls are proved to meet. There is no code here.
+// What is promised of the orders, as theorems over the definitions that the calls are proved to meet. There is no code
+// here.

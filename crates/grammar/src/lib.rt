@@ -1,4 +1,5 @@
-// The language of operators' scripts: a line of bytes is read as what it asks for, or refused, and numbers are told in bytes.
+// The language of operators' scripts: a line of bytes is read as what it asks for, or refused, and numbers are told in
+// bytes.
 mod fields;
 mod numbers;
 mod reading;

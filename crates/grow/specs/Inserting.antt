@@ -1,4 +1,5 @@
--- Putting a mark into a tree that stands in a pool's words: what each step may assume, and what it leaves. The tree that is left is the model's.
+-- Putting a mark into a tree that stands in a pool's words: what each step may assume, and what it leaves. The tree
+-- that is left is the model's.
 use Prim.Native.Nat.{ℕ, _+_, _≤_, _<_}
 use mathlib.Core.Path.{_≡_}
 use mathlib.Core.Bool.{Bool, true, false}
@@ -35,8 +36,8 @@ pub record ToAsk (w : List ℕ) (root total index : ℕ) (p : Pool) : Type 0 whe
   pub total-is : size (p .tree) ≡ total
   pub within : index ≤ total
 
--- A leaf that is to be put at n, of so many marks xs, and the free chain from `head` to `end` beside it: two nodes are free where the leaf has
--- come to be too full.
+-- A leaf that is to be put at n, of so many marks xs, and the free chain from `head` to `end` beside it: two nodes are
+-- free where the leaf has come to be too full.
 pub record ToSettle (w : List ℕ) (n end head : ℕ) (leaf : Leaf) (total : ℕ) (xs : List Bool) (free : List ℕ) : Type 0 where
   pub held : leaf ≡ leaf-of xs
   pub total-is : length xs ≡ total

@@ -1,5 +1,5 @@
-// Putting a mark into a tree, by recursion on node numbers. The forks on the way count the mark as they are passed, so that there is nothing to
-// do on the way back unless a leaf was split.
+// Putting a mark into a tree, by recursion on node numbers. The forks on the way count the mark as they are passed, so
+// that there is nothing to do on the way back unless a leaf was split.
 ghost use mathlib.Core.Bool.{Bool, not, true};
 ghost use mathlib.Core.List.{[], List};
 ghost use mathlib.Core.Path.{_≡_};
@@ -34,8 +34,8 @@ const LEAF_HALF: u64 = 64;
 // A split takes two nodes.
 const SPLIT_NODES: u64 = 2;
 
-// Whether an insert at a place has room: two nodes may be taken, or its leaf does not split. Only where they may not the
-// leaf is looked for.
+// Whether an insert at a place has room: two nodes may be taken, or its leaf does not split. Only where they may not
+// the leaf is looked for.
 pub fn room(nodes: &[u64], root: u64, length: u64, may: bool, index: u64) -> bool
     requires { ⌜ ((p : Pool) × ToAsk (now nodes) root length index p) ⌝ }
     ensures { λ r. ⌜ ((p : Pool) → ToAsk (now (nodes .entry)) root length index p → r ≡ not (full may index p)) ⌝ }
@@ -99,7 +99,8 @@ fn counted(fork: Fork, left: bool, bit: bool) -> Fork
     }
 }
 
-// Puts a mark into the tree at n, which holds `length`, and says by how much the tree has grown in height. `head` is the first free number.
+// Puts a mark into the tree at n, which holds `length`, and says by how much the tree has grown in height. `head` is
+// the first free number.
 fn insert_below(
     nodes: &mut [u64],
     head: &mut u64,
@@ -136,7 +137,8 @@ fn insert_below(
     }
 }
 
-// Puts a mark in at a place that has room, and hands the free chain back: its head has moved exactly where a leaf was split.
+// Puts a mark in at a place that has room, and hands the free chain back: its head has moved exactly where a leaf was
+// split.
 pub fn insert(
     nodes: &mut [u64],
     root: u64,

@@ -19,8 +19,8 @@ unfoldable pub built-leaves : ℕ → ℕ → List Bool → List Tree
 built-leaves n zero xs = []
 built-leaves n (suc k) xs = leaf n (take leaf-built xs) ∷ built-leaves (suc n) k (drop leaf-built xs)
 
--- One round, on a list of trees with the rightmost first: pairs from the right end are joined, and an odd first tree joins, as left child, the
--- pair just made beside it. The forks take the numbers from n on, as they are made.
+-- One round, on a list of trees with the rightmost first: pairs from the right end are joined, and an odd first tree
+-- joins, as left child, the pair just made beside it. The forks take the numbers from n on, as they are made.
 unfoldable pub round : ℕ → List Tree → List Tree
 round n [] = []
 round n (t ∷ []) = t ∷ []
@@ -33,14 +33,16 @@ unfoldable pub foremost : List Tree → Tree
 foremost [] = leaf zero []
 foremost (t ∷ more) = t
 
--- so many rounds, and the tree that is then left. Each fork that a round makes leaves one tree fewer, and takes one number; a lone tree stays.
+-- so many rounds, and the tree that is then left. Each fork that a round makes leaves one tree fewer, and takes one
+-- number; a lone tree stays.
 unfoldable pub rounds : ℕ → ℕ → List Tree → Tree
 rounds zero n ts = foremost ts
 rounds (suc more) n ts =
     let joined : List Tree = round n ts in
     rounds more (n + (length ts - length joined)) joined
 
--- the tree built from these marks: leaves from number 0, then the forks. As many rounds as there are leaves are more than enough.
+-- the tree built from these marks: leaves from number 0, then the forks. As many rounds as there are leaves are more
+-- than enough.
 unfoldable pub build : List Bool → Tree
 build xs =
     let k : ℕ = leaf-count (length xs) in

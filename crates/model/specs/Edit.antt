@@ -1,4 +1,5 @@
--- Putting a mark into a tree and taking one out, as the textbooks have it: down to a leaf, and balanced again on the way back.
+-- Putting a mark into a tree and taking one out, as the textbooks have it: down to a leaf, and balanced again on the
+-- way back.
 use Prim.Native.Nat.{ℕ, zero, suc, _+_, _-_}
 use mathlib.Core.Bool.{Bool, true, false}
 use mathlib.Core.List.{List, [], _∷_, _++_}
@@ -34,8 +35,8 @@ leaf-at i (fork n l r) = elim (ltb i (size l)) [ true ↦ leaf-at i l | false �
 unfoldable pub splits : ℕ → Tree → Bool
 splits i t = leb leaf-split (suc (length (leaf-at i t)))
 
--- The leaf n with these marks, split where they are too many: n becomes the fork, the left half takes the first free number, the right half
--- the next.
+-- The leaf n with these marks, split where they are too many: n becomes the fork, the left half takes the first free
+-- number, the right half the next.
 unfoldable pub settle : ℕ → List Bool → List ℕ → Tree
 settle n xs free =
     elim (leb leaf-split (length xs)) [
@@ -83,9 +84,9 @@ pub record Trimmed : Type 0 where
   pub tree : Tree
   pub freed : List ℕ
 
--- The left child has lost a mark and is t now. With too few marks left it is joined to the first leaf of the right child, whose
--- content moves to the parent's number; the left child's number is freed, then the right child's, so the right one's is first in the chain.
--- If that leaf holds more, it lends its first mark instead.
+-- The left child has lost a mark and is t now. With too few marks left it is joined to the first leaf of the right
+-- child, whose content moves to the parent's number; the left child's number is freed, then the right child's, so the
+-- right one's is first in the chain. If that leaf holds more, it lends its first mark instead.
 unfoldable pub mend-left : ℕ → Trimmed → Tree → Trimmed
 mend-left n t r =
     elim (leb (size (t .tree)) leaf-low) [

@@ -1,5 +1,5 @@
--- A window's marks are a plain list of bits, the oldest first: `true` is a strike (the trigger fired), `false` a quiet frame.
--- Here is what the storm analysts' orders mean on that list. It knows no tree, no word and no pool.
+-- A window's marks are a plain list of bits, the oldest first: `true` is a strike (the trigger fired), `false` a quiet
+-- frame. Here is what the storm analysts' orders mean on that list. It knows no tree, no word and no pool.
 use Prim.Native.Nat.{ℕ, zero, suc, _+_, max}
 use mathlib.Core.Bool.{Bool, true, false, not}
 use mathlib.Core.List.{List, [], _∷_, _++_, map}

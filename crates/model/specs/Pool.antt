@@ -1,5 +1,5 @@
--- A pool of numbered nodes: the tree, and the chain of free numbers beside it. Inserting asks for room first, and is refused whole where there
--- is none; what a remove frees goes first into the chain.
+-- A pool of numbered nodes: the tree, and the chain of free numbers beside it. Inserting asks for room first, and is
+-- refused whole where there is none; what a remove frees goes first into the chain.
 use Prim.Native.Nat.{ℕ, zero, suc, _+_, _-_, _*_}
 use mathlib.Core.Bool.{Bool, true, false, _&&_, not}
 use mathlib.Core.List.{List, [], _∷_, _++_}
@@ -40,7 +40,8 @@ two-free p = leb 2 (length (p .free))
 unfoldable pub full : Bool → ℕ → Pool → Bool
 full may i p = Edit.splits i (p .tree) && not may
 
--- the pool with b put in at place i, none where there is no room for it; whether two nodes may be taken is the caller's rule
+-- the pool with b put in at place i, none where there is no room for it; whether two nodes may be taken is the caller's
+-- rule
 unfoldable pub insert : Bool → ℕ → Bool → Pool → Option Pool
 insert may i b p =
     elim (full may i p) [

@@ -1,5 +1,5 @@
--- The reference cases R1 to R14 of the scope, as one table: each row is a question to the model and the answer that the scope gives.
--- An answer is a list of numbers; the empty list says that there is none.
+-- The reference cases R1 to R14 of the scope, as one table: each row is a question to the model and the answer that the
+-- scope gives. An answer is a list of numbers; the empty list says that there is none.
 use Prim.Native.Nat.{ℕ, zero, suc, _+_, _-_, _^_}
 use mathlib.Core.Bool.{Bool, true, false, _&&_}
 use mathlib.Core.List.{List, [], _∷_, _++_, map}
@@ -20,14 +20,15 @@ pub data Question : Type 0 where
   place-in-word : (word : ℕ) (bit : Bool) (k : ℕ) → Question
   -- the sizes of the leaves, where so many marks are built into a pool of so many nodes
   built-leaves : (nodes : ℕ) (marks : ℕ) → Question
-  -- the shape of the tree built from so many marks, told from the top, the left before the right: 0 for a leaf, balance + 2 for a fork
+  -- the shape of the tree built from so many marks, told from the top, the left before the right: 0 for a leaf, balance
+  -- + 2 for a fork
   built-shape : (marks : ℕ) → Question
   -- the sizes of the leaves after an insert at place 0 into a lone leaf of so many marks, in a pool of so many nodes
   inserted : (nodes : ℕ) (marks : ℕ) → Question
   -- the sizes of the leaves after a remove at a place from two leaves of these sizes
   removed : (left : ℕ) (right : ℕ) (place : ℕ) → Question
-  -- a fork whose left child has subtrees of heights a and c and whose right child has height e, turned right: the lowered fork's balance + 2,
-  -- the risen one's, the height after and the height before
+  -- a fork whose left child has subtrees of heights a and c and whose right child has height e, turned right: the
+  -- lowered fork's balance + 2, the risen one's, the height after and the height before
   turned : (a : ℕ) (c : ℕ) (e : ℕ) → Question
 
 -- ---- the model's answers

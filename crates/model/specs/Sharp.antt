@@ -29,7 +29,8 @@ pub data Change : Type 0 where
 -- the pool q is what p becomes by these edits, one after the other, each of them in range and none refused
 abbrev pub Becomes : List Change → Pool → Pool → Type 0
 Becomes [] p q = p ≡ q
-Becomes (put i b ∷ more) p q = (i ≤ size (p .tree)) × (next : Pool) × (insert (two-free p) i b p ≡ some next) × Becomes more next q
+Becomes (put i b ∷ more) p q =
+    (i ≤ size (p .tree)) × (next : Pool) × (insert (two-free p) i b p ≡ some next) × Becomes more next q
 Becomes (out i ∷ more) p q = (i < size (p .tree)) × Becomes more (remove i p) q
 
 -- a build in n nodes and edits after it, by which a pool comes to such a state

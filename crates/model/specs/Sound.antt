@@ -18,7 +18,8 @@ abbrev pub Balanced : Tree → Type 0
 Balanced (leaf n xs) = Unit {0}
 Balanced (fork n l r) = Balanced l × Balanced r × (height l ≤ suc (height r)) × (height r ≤ suc (height l))
 
--- every leaf holds at most leaf-most marks, and at least leaf-least; but the rightmost need hold only so many as the first argument says
+-- every leaf holds at most leaf-most marks, and at least leaf-least; but the rightmost need hold only so many as the
+-- first argument says
 abbrev pub Sized : ℕ → Tree → Type 0
 Sized least (leaf n xs) = (least ≤ length xs) × (length xs ≤ leaf-most)
 Sized least (fork n l r) = Sized leaf-least l × Sized least r

@@ -1,7 +1,7 @@
 // The order program: plays a script from standard input on one pool, and writes its answers to standard output.
 //
-// Proved: the library's `script::play`, which writes each line, and that the loop goes on with the place and the nodes that a
-// line leaves. Only run: that the bytes are read and handed on.
+// Proved: the library's `script::play`, which writes each line, and that the loop goes on with the place and the nodes
+// that a line leaves. Only run: that the bytes are read and handed on.
 ghost use Prim.Native.Nat.{_≤_};
 ghost use lib.ListN.{length};
 ghost use Rattle.orders.specs.Loop.{Plays};

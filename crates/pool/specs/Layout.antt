@@ -1,4 +1,5 @@
--- How a pool's state stands in its node words: each node of the tree at its number, and the free chain, each free node holding the next number.
+-- How a pool's state stands in its node words: each node of the tree at its number, and the free chain, each free node
+-- holding the next number.
 use Prim.Native.Nat.{ℕ, zero, suc, _+_, _-_, _*_, _≤_}
 use mathlib.Core.Path.{_≡_}
 use mathlib.Core.Bool.{true}

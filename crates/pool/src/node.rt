@@ -152,8 +152,8 @@ pub fn node_at(nodes: &[u64], n: u64) -> Node
     Node::Broken
 }
 
-// The node at n, where that is a leaf or a fork whose left child has a mark. The word of a fork that counts those marks is 0 in a leaf: it tells the
-// two apart, and no other word is tested.
+// The node at n, where that is a leaf or a fork whose left child has a mark. The word of a fork that counts those marks
+// is 0 in a leaf: it tells the two apart, and no other word is tested.
 pub fn leaf_or_fork(nodes: &[u64], n: u64) -> Node
     requires { ⌜ LeafOrFork (node-at (now nodes) n) ⌝ }
     ensures { λ r. ⌜ r ≡ node-at (now (nodes .entry)) n ⌝ }
@@ -268,7 +268,8 @@ fn lower_left(nodes: &mut [u64], n: u64, total: u64, ones: u64)
     nodes[at + 4] = strikes - ones;
 }
 
-// Takes so many marks, so many of them strikes, off what the fork at n says of its left child. Only these two words are written.
+// Takes so many marks, so many of them strikes, off what the fork at n says of its left child. Only these two words are
+// written.
 pub fn less_left(nodes: &mut [u64], n: u64, total: u64, ones: u64)
     requires { ⌜ ((f : Fork) × (node-at (now nodes) n ≡ Node.Fork f) × (total ≤ f .«left_total») × (ones ≤ f .«left_ones»)) ⌝ }
     ensures { λ _. ⌜ ((f : Fork) → node-at (now (nodes .entry)) n ≡ Node.Fork f → now (nodes .exit) ≡ put (now (nodes .entry)) n (fork-cell (less-left f total ones))) ⌝ }

@@ -17,8 +17,8 @@ use tree::LEVELS;
 
 const WORD_BITS: u64 = 64;
 
-// How far the visit has come: whether a strike was met, how many quiet frames have passed since the last one, and the longest quiet between two
-// strikes so far.
+// How far the visit has come: whether a strike was met, how many quiet frames have passed since the last one, and the
+// longest quiet between two strikes so far.
 struct Watch {
     struck: bool,
     since: u64,
@@ -45,8 +45,8 @@ fn after_strike(watch: Watch, quiet: u64) -> Watch
     }
 }
 
-// After the lowest bits of a word, so many. The zeros below its lowest one are the quiet frames before the next strike; the ones from there on are
-// strikes with no quiet frame between them, so that all but the first change nothing.
+// After the lowest bits of a word, so many. The zeros below its lowest one are the quiet frames before the next strike;
+// the ones from there on are strikes with no quiet frame between them, so that all but the first change nothing.
 fn after_word(watch: Watch, word: u64, length: u64) -> Watch
     requires { ⌜ (length ≤ 64) × (watch .since + length < 2 ^ 64) ⌝ }
     ensures { λ r. ⌜ r ≡ watched watch (bits length word) ⌝ }
@@ -105,7 +105,8 @@ fn after_tree(nodes: &[u64], n: u64, length: u64, watch: Watch, levels: u64) -> 
     }
 }
 
-// The longest quiet between two neighbouring strikes of the tree at `root`, which holds `length` marks; 0 with fewer than two strikes.
+// The longest quiet between two neighbouring strikes of the tree at `root`, which holds `length` marks; 0 with fewer
+// than two strikes.
 pub fn longest_quiet(nodes: &[u64], root: u64, length: u64) -> u64
     requires { ⌜ ((t : Tree) × Rooted (now nodes) root levels t × (size t ≡ length)) ⌝ }
     ensures { λ r. ⌜ ((t : Tree) → Rooted (now (nodes .entry)) root levels t → size t ≡ length

@@ -1,5 +1,6 @@
--- A turn's contract determines where the next line begins, the pool's nodes, how many bytes were written, and each word and each byte: two results that it
--- allows are equal. The law speaks of the contract as the check reads it off the source.
+-- A turn's contract determines where the next line begins, the pool's nodes, how many bytes were written, and each word
+-- and each byte: two results that it allows are equal. The law speaks of the contract as the check reads it off the
+-- source.
 use Prim.Native.Nat.{ℕ, _+_, _≤_}
 use native.Mathlib.Omega.{arith}
 use mathlib.Core.Path.{_≡_, sym, ap, ap₂, _∙_}

@@ -19,7 +19,8 @@ use Rattle.grammar.specs.Text.{decimal-text, hex-text, newline, space}
 
 -- ---- what is held
 
--- no pool has begun; a pool of so many nodes stands; or there are words for so many nodes in which none stands, to which a script never comes
+-- no pool has begun; a pool of so many nodes stands; or there are words for so many nodes in which none stands, to
+-- which a script never comes
 pub data State : Type 0 where
   nothing : State
   holding : ℕ → Pool → State

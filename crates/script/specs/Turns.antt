@@ -23,8 +23,9 @@ Holds ws n nothing = sized n ≡ false
 Holds ws n (holding m p) = (m ≡ n) × Stands (take (extent-of n) ws) n p
 Holds ws n (damaged m) = (m ≡ n) × (sized n ≡ true) × (WellFormed (take (extent-of n) ws) → ⊥)
 
--- A line that asks for w has been played, with s held. The words ws, of which a pool of n nodes is in use, are now ws′ and n′, and the bytes out are
--- out′; the first `end` of them were written. Words past the pool stay, and where nothing else is held no word changes.
+-- A line that asks for w has been played, with s held. The words ws, of which a pool of n nodes is in use, are now ws′
+-- and n′, and the bytes out are out′; the first `end` of them were written. Words past the pool stay, and where nothing
+-- else is held no word changes.
 pub record Played (w : Option Wanted) (s : State) (ws : List ℕ) (n : ℕ) (out : List ℕ) (n′ end : ℕ) (ws′ out′ : List ℕ) : Type 0 where
   pub told : out′ ≡ over 0 (says w s) out
   pub bytes : end ≡ length (says w s)
@@ -54,8 +55,8 @@ pub record Turned (input : List ℕ) (at : ℕ) (ws : List ℕ) (n : ℕ) (out :
 
 -- ---- a whole input
 
--- An input played from a place to its end in k turns, each from where the one before it left off, on any bytes that are lent; `printed` is what they
--- write, one after the other.
+-- An input played from a place to its end in k turns, each from where the one before it left off, on any bytes that are
+-- lent; `printed` is what they write, one after the other.
 unfoldable pub Plays : ℕ → List ℕ → ℕ → List ℕ → ℕ → List ℕ → Type 0
 Plays zero input at ws n printed = (length input ≤ at) × (printed ≡ [])
 Plays (suc k) input at ws n printed =

@@ -1,4 +1,5 @@
-// A script is played line by line on one pool. `nodes` says how many nodes the pool in use has; any number that no pool has says that there is none.
+// A script is played line by line on one pool. `nodes` says how many nodes the pool in use has; any number that no pool
+// has says that there is none.
 use crate::telling::end_line;
 use crate::telling::put_two;
 use crate::telling::put_words;

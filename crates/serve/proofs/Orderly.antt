@@ -163,7 +163,8 @@ quiet-done xs r e = ap Done e
 
 -- an order changes nothing, or it is an insert or a remove that is carried out
 pub by-after : (P : Pool → Type 0) (may : Bool) (o : Asked) (p : Pool) → P p
-    → ((i : ℕ) (b : Bool) → i ≤ size (p .tree) → Pool.full may i p ≡ false → P (with-mark i b p)) → ((i : ℕ) → i < size (p .tree) → P (Pool.remove i p))
+    → ((i : ℕ) (b : Bool) → i ≤ size (p .tree) → Pool.full may i p ≡ false → P (with-mark i b p))
+    → ((i : ℕ) → i < size (p .tree) → P (Pool.remove i p))
     → P (after may o p)
 unfolding after
 by-after P may (inserting i b) p same put taken = by-insert may i b p P (λ _. same) (λ _ _. same) (put i b)

@@ -1,5 +1,6 @@
--- The contract of `told` determines its result: two that it allows for the same answer are equal. The law speaks of the contract as the check reads it
--- off the source. What `serve` leaves is pinned where its words are known to hold whole nodes: by the window (window/proofs/Pinned.antt).
+-- The contract of `told` determines its result: two that it allows for the same answer are equal. The law speaks of the
+-- contract as the check reads it off the source. What `serve` leaves is pinned where its words are known to hold whole
+-- nodes: by the window (window/proofs/Pinned.antt).
 use mathlib.Core.Path.{_≡_, sym, _∙_}
 use Rattle.serve.proofs.answer.told.Reads as told
 

@@ -1,6 +1,7 @@
--- Orders: what each asks, what the plain list of marks answers, and what a tree with its free numbers answers and becomes. An
--- order that is not carried out changes nothing. The answers are the list's but for one: an insert that has no room is answered
--- Full. Whether two nodes may be taken is a rule of those who keep the tree, and is given as a yes or no.
+-- Orders: what each asks, what the plain list of marks answers, and what a tree with its free numbers answers and
+-- becomes. An order that is not carried out changes nothing. The answers are the list's but for one: an insert that has
+-- no room is answered Full. Whether two nodes may be taken is a rule of those who keep the tree, and is given as a yes
+-- or no.
 use Prim.Native.Nat.{ℕ, zero, suc}
 use mathlib.Core.Bool.{Bool, true, false, _&&_}
 use mathlib.Core.List.{List}
@@ -108,7 +109,8 @@ or-else p none = p
 
 -- what it is afterwards
 unfoldable pub after : Bool → Asked → Pool → Pool
-after may (inserting i b) p = elim (leb i (length (marks (p .tree)))) [ true ↦ or-else p (Pool.insert may i b p) | false ↦ p ]
+after may (inserting i b) p =
+    elim (leb i (length (marks (p .tree)))) [ true ↦ or-else p (Pool.insert may i b p) | false ↦ p ]
 after may (removing i) p = elim (ltb i (length (marks (p .tree)))) [ true ↦ Pool.remove i p | false ↦ p ]
 after may (accessing i) p = p
 after may (ranking end b) p = p

@@ -1,5 +1,5 @@
--- One order on a tree that stands among node words, with the free chain beside it: what may be assumed of them, and what is
--- left. Nodes that are neither the tree's nor free are nobody's concern here, and stay as they are.
+-- One order on a tree that stands among node words, with the free chain beside it: what may be assumed of them, and
+-- what is left. Nodes that are neither the tree's nor free are nobody's concern here, and stay as they are.
 use Prim.Native.Nat.{ℕ, _+_, _≤_, _<_, _^_}
 use mathlib.Core.Path.{_≡_}
 use mathlib.Core.Bool.{Bool, true}
@@ -19,8 +19,8 @@ pub record Grown (w : List ℕ) (h : Held) (t : Tree) : Type 0 where
   pub rooted : Rooted w (h .root) levels t
   pub total : size t ≡ h .length
 
--- A tree with its free numbers that can be edited. The chain ends with `end`, which is no node's number; and where two nodes
--- may be taken, two are free.
+-- A tree with its free numbers that can be edited. The chain ends with `end`, which is no node's number; and where two
+-- nodes may be taken, two are free.
 pub record ToServe (w : List ℕ) (end : ℕ) (h : Held) (may : Bool) (p : Pool) : Type 0 where
   pub site : Site w (h .root) levels end (h .chain .first) (p .tree) (p .free)
   pub total : size (p .tree) ≡ h .length

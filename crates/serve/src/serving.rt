@@ -90,7 +90,8 @@ fn access_at(nodes: &[u64], held: Held, index: u64) -> Answer
 // How many marks of a kind stand before a place.
 fn rank_at(nodes: &[u64], held: Held, place: u64, bit: bool) -> Answer
     requires { ⌜ ((t : Tree) × Grown (now nodes) held t) ⌝ }
-    ensures { λ r. ⌜ ((t : Tree) → Grown (now (nodes .entry)) held t → r ≡ list-answer (ranking place bit) (marks t)) ⌝ }
+    ensures { λ r. ⌜ ((t : Tree) → Grown (now (nodes .entry)) held t
+        → r ≡ list-answer (ranking place bit) (marks t)) ⌝ }
 {
     if held.length < place {
         return Answer::OutOfRange;

@@ -1,5 +1,6 @@
--- A remove at a leaf and at a fork: what it may assume there, and what it leaves if its call on the child does. A child of at most 33 marks is a leaf,
--- which has freed nothing and kept its height, so the fork above it stands as mending asks.
+-- A remove at a leaf and at a fork: what it may assume there, and what it leaves if its call on the child does. A child
+-- of at most 33 marks is a leaf, which has freed nothing and kept its height, so the fork above it stands as mending
+-- asks.
 use Prim.Native.Nat.{ℕ, suc, _+_, _-_, _≤_, _<_}
 use native.Mathlib.Omega.{arith}
 use mathlib.Core.Path.{_≡_, refl, sym, ap, _∙_}

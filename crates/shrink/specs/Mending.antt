@@ -53,7 +53,8 @@ pub record ToMergeRight (w : List ℕ) (n levels : ℕ) (f : Fork) (l r : Tree) 
   pub flat : height r ≡ 0
   pub room : size r + length (last-leaf l) ≤ 127
 
--- the leaf of the one child that is next to the other has room for a mark, and the leaf on the other side has one to lend
+-- the leaf of the one child that is next to the other has room for a mark, and the leaf on the other side has one to
+-- lend
 pub record ToBorrowFirst (w : List ℕ) (n levels : ℕ) (f : Fork) (l r : Tree) : Type 0 where
   pub over : Over w n levels f l r
   pub room : 1 + length (last-leaf l) ≤ 127
@@ -64,7 +65,8 @@ pub record ToBorrowLast (w : List ℕ) (n levels : ℕ) (f : Fork) (l r : Tree) 
   pub room : 1 + length (first-leaf r) ≤ 127
   pub some : 1 ≤ length (last-leaf l)
 
--- The fork at n over l and r, of which one, by `left`, is a leaf with too few marks, and the free chain from `head` to `end` beside it.
+-- The fork at n over l and r, of which one, by `left`, is a leaf with too few marks, and the free chain from `head` to
+-- `end` beside it.
 pub record ToMend (w : List ℕ) (n levels end head : ℕ) (left : Bool) (l r : Tree) (free : List ℕ) : Type 0 where
   pub over : Over w n levels (fork-of l r) l r
   pub once : Distinct (numbers (Tree.fork n l r) ++ free)

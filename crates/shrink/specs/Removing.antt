@@ -1,4 +1,5 @@
--- Taking a mark out of a tree that stands in words, with the free chain beside it: what may be assumed, and what is left.
+-- Taking a mark out of a tree that stands in words, with the free chain beside it: what may be assumed, and what is
+-- left.
 use Prim.Native.Nat.{ℕ, _+_, _<_, _^_}
 use mathlib.Core.Path.{_≡_}
 use mathlib.Core.Bool.{Bool}
@@ -20,7 +21,8 @@ pub record ToRemove (w : List ℕ) (n levels end head length index : ℕ) (t : T
   pub total : size t ≡ length
   pub within : index < length
 
--- The mark has gone, and it was `bit`. What was freed stands first in the chain, which begins at `head` now, and the tree has grown in height by `by`.
+-- The mark has gone, and it was `bit`. What was freed stands first in the chain, which begins at `head` now, and the
+-- tree has grown in height by `by`.
 pub record Gone (w w′ : List ℕ) (end head : ℕ) (by : ℤ) (bit : Bool) (index : ℕ) (t : Tree) (free : List ℕ) : Type 0 where
   pub after : After w w′ end head by t (remove index t .tree) free (remove index t .freed ++ free)
   pub mark : bit ≡ access index (marks t)

@@ -1,5 +1,5 @@
-// Mending a fork of which one child, a leaf, has too few marks left: it is joined to the nearest leaf of the other child, or borrows a mark from
-// it.
+// Mending a fork of which one child, a leaf, has too few marks left: it is joined to the nearest leaf of the other
+// child, or borrows a mark from it.
 ghost use mathlib.Core.Path.{_≡_};
 ghost use mathlib.Core.Bool.{true, false};
 ghost use mathlib.Core.List.{List, [], _∷_};
@@ -165,7 +165,8 @@ fn mend_right(nodes: &mut [u64], head: &mut u64, n: u64, levels: u64) -> i64
     0
 }
 
-// A child of the fork at n, the left one or not, is a leaf with too few marks. Says by how much the fork has grown in height.
+// A child of the fork at n, the left one or not, is a leaf with too few marks. Says by how much the fork has grown in
+// height.
 pub fn mend(nodes: &mut [u64], head: &mut u64, n: u64, left: bool, length: u64, levels: u64) -> i64
     requires { ⌜ ((l : Tree) × (r : Tree) × (free : List ℕ) × (end : ℕ) × ToMend (now nodes) n levels end (now head) left l r free × (size l + size r ≡ length)) ⌝ }
     ensures { λ g. ⌜ ((l : Tree) (r : Tree) (free : List ℕ) (end : ℕ) → ToMend (now (nodes .entry)) n levels end (now (head .entry)) left l r free → size l + size r ≡ length → Mended (now (nodes .entry)) (now (nodes .exit)) n end (now (head .exit)) left g l r free) ⌝ }

@@ -25,8 +25,8 @@ pub struct Removed {
     pub chain: Chain,
 }
 
-// Takes a mark out of the tree at n, which holds `length`, and says by how much the tree has grown in height: not at all, or by a level less.
-// `bit` becomes the mark, and `head` is the first free number.
+// Takes a mark out of the tree at n, which holds `length`, and says by how much the tree has grown in height: not at
+// all, or by a level less. `bit` becomes the mark, and `head` is the first free number.
 fn remove_below(
     nodes: &mut [u64],
     head: &mut u64,
@@ -70,7 +70,8 @@ fn remove_below(
     }
 }
 
-// Takes the mark at a place out, and hands it back with the free chain, whose head has moved exactly where two leaves were joined.
+// Takes the mark at a place out, and hands it back with the free chain, whose head has moved exactly where two leaves
+// were joined.
 pub fn remove(nodes: &mut [u64], root: u64, length: u64, chain: Chain, index: u64) -> Removed
     requires { ⌜ ((t : Tree) × (free : List ℕ) × (end : ℕ) × ToTake (now nodes) root length chain index end t free) ⌝ }
     ensures { λ r. ⌜ ((t : Tree) (free : List ℕ) (end : ℕ) → ToTake (now (nodes .entry)) root length chain index end t free → Took (now (nodes .entry)) (now (nodes .exit)) end index t free r) ⌝ }

@@ -11,7 +11,8 @@ use Rattle.pool.specs.Layout.{Laid, first-of}
 use Rattle.pool.specs.Node.{nodes-in}
 use Rattle.pool.specs.declared.chain.Chain.{Chain}
 
--- a sound pool stands in these words, as many nodes as there is room for, with this root, this many marks and this chain
+-- a sound pool stands in these words, as many nodes as there is room for, with this root, this many marks and this
+-- chain
 pub record Right (w : List ℕ) (root total : ℕ) (chain : Chain) (p : Pool) : Type 0 where
   pub laid : Laid w (nodes-in w) p
   pub sound : Sound (nodes-in w) p

@@ -67,8 +67,8 @@ least-of broken = zero
 unfoldable pub found-of : Tree → Found
 found-of t = record { height = height t; ones = count true (marks t); nodes = length (numbers t) }
 
--- A tree stands in these words from n down. It holds so many marks and is balanced, no leaf is too full or too empty, the rightmost holds at
--- least `least`, and it has no more than so many levels.
+-- A tree stands in these words from n down. It holds so many marks and is balanced, no leaf is too full or too empty,
+-- the rightmost holds at least `least`, and it has no more than so many levels.
 pub record Part (w : List ℕ) (n total least levels : ℕ) (t : Tree) : Type 0 where
   pub at : top t ≡ n
   pub holds : Holds w t

@@ -1,5 +1,5 @@
-// Whether a sound pool stands in some node words. The tree is visited from the root, then the free chain is followed; no node is met twice,
-// and between them they have to have every node.
+// Whether a sound pool stands in some node words. The tree is visited from the root, then the free chain is followed;
+// no node is met twice, and between them they have to have every node.
 use crate::links::chain_sound;
 use crate::visit::Seen;
 use crate::visit::least_of;

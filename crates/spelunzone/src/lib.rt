@@ -1,4 +1,5 @@
-// The calls as a C host sees them: words cross as a pointer and a count, and the answer comes back as two words, its number and its value.
+// The calls as a C host sees them: words cross as a pointer and a count, and the answer comes back as two words, its
+// number and its value.
 ghost use mathlib.Core.Path.{_≡_};
 ghost use Rattle.spelunzone.specs.Reply.{Replies, Says};
 ghost use Rattle.window.specs.Calls.{BuildsTo, Checked, Ran, Valued};

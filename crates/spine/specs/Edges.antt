@@ -27,7 +27,8 @@ pub record Editable (w : List ℕ) (n levels : ℕ) (t : Tree) : Type 0 where
   pub rooted : Rooted w n levels t
   pub once : Distinct (numbers t)
 
--- the marks ys, so many in a leaf and so many of them strikes, can be put before the first mark of t: its first leaf has room for them
+-- the marks ys, so many in a leaf and so many of them strikes, can be put before the first mark of t: its first leaf
+-- has room for them
 pub record ToPutBefore (w : List ℕ) (n levels : ℕ) (leaf : Leaf) (size ones : ℕ) (t : Tree) (ys : List Bool) : Type 0 where
   pub tree : Editable w n levels t
   pub held : leaf ≡ leaf-of ys

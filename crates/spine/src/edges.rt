@@ -1,5 +1,5 @@
-// Each function goes down one edge of a tree to its leaf. Only forks of the left edge store what changes there: how many marks, and how many
-// strikes, their left child holds.
+// Each function goes down one edge of a tree to its leaf. Only forks of the left edge store what changes there: how
+// many marks, and how many strikes, their left child holds.
 ghost use mathlib.Core.Path.{_≡_};
 ghost use mathlib.Core.List.{List};
 ghost use mathlib.Core.Bool.{Bool};

@@ -125,8 +125,8 @@ rank-most t b end = omega (arith, ones-le (wanted b (take end (marks t))), wante
 
 -- ---- select
 
--- A walk to the k-th mark of a kind in the tree t₀: it is the one after `skip` of its kind in the subtree, before which so many marks stand. Where the
--- subtree has too few, the tree ends with it.
+-- A walk to the k-th mark of a kind in the tree t₀: it is the one after `skip` of its kind in the subtree, before which
+-- so many marks stand. Where the subtree has too few, the tree ends with it.
 pub record Selecting (t₀ : Tree) (b : Bool) (k skip before : ℕ) (t : Tree) : Type 0 where
   pub less : skip < k
   pub place : further before (select b (skip + 1) (marks t)) ≡ select b k (marks t₀)

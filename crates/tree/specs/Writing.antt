@@ -12,7 +12,8 @@ pub record Moved (t : Tail) (n : ℕ) (r : Tail) : Type 0 where
   pub count : r .full * 64 + r .filled ≡ t .full * 64 + t .filled + n
   pub part : r .filled < 64
 
--- The marks xs have been taken in over the output o: its full words hold the first of them, and the rest wait in the tail.
+-- The marks xs have been taken in over the output o: its full words hold the first of them, and the rest wait in the
+-- tail.
 pub record Written (o : List ℕ) (xs : List Bool) (out : List ℕ) (t : Tail) : Type 0 where
   pub count : length xs ≡ t .full * 64 + t .filled
   pub part : t .filled < 64

@@ -21,7 +21,8 @@ use pool::leaf_or_fork;
 
 const WORD_BITS: u64 = 64;
 
-// Where a place of a tree lies: the leaf, how many marks it holds, the place in it, and how many strikes stand before the leaf.
+// Where a place of a tree lies: the leaf, how many marks it holds, the place in it, and how many strikes stand before
+// the leaf.
 pub struct Spot {
     pub leaf: Leaf,
     pub length: u64,
@@ -143,7 +144,8 @@ pub fn rank(nodes: &[u64], root: u64, length: u64, end: u64, bit: bool) -> u64
     wanted(end, strikes(nodes, root, length, end), bit)
 }
 
-// The place of the k-th strike, or quiet frame, k from 1. The walk passes over `skip` of the kind; where the tree has too few it ends in the last leaf.
+// The place of the k-th strike, or quiet frame, k from 1. The walk passes over `skip` of the kind; where the tree has
+// too few it ends in the last leaf.
 pub fn select(nodes: &[u64], root: u64, length: u64, bit: bool, k: u64) -> Found
     requires { ⌜ ((t : Tree) × Rooted (now nodes) root levels t × (size t ≡ length) × (1 ≤ k)) ⌝ }
     ensures { λ r. ⌜ ((t : Tree) → Rooted (now (nodes .entry)) root levels t → size t ≡ length
@@ -174,7 +176,8 @@ pub fn select(nodes: &[u64], root: u64, length: u64, bit: bool, k: u64) -> Found
     }
 }
 
-// A place in a leaf, with the marks before the leaf counted in. The zeros past the marks of the last leaf are no quiet frames.
+// A place in a leaf, with the marks before the leaf counted in. The zeros past the marks of the last leaf are no quiet
+// frames.
 fn placed(before: u64, length: u64, place: Place) -> Found
     requires { ⌜ Near before place ⌝ }
     ensures { λ r. ⌜ r ≡ found-at before length place ⌝ }

@@ -27,7 +27,8 @@ pub fn toward(fork: Fork, length: u64, index: u64) -> Step
     }
 }
 
-// One of two numbers. Each number of a step is chosen by itself, and so without a jump, which a walk to any place would have the processor guess.
+// One of two numbers. Each number of a step is chosen by itself, and so without a jump, which a walk to any place would
+// have the processor guess.
 pub fn either(first: bool, a: u64, b: u64) -> u64
     ensures { λ r. ⌜ Picked first a b r ⌝ }
 {

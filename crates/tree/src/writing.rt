@@ -1,5 +1,5 @@
-// Writing the marks of a tree out as words, lowest bit first: two words for each 128 marks begun, the last padded with zeros.
-// The leaves are visited from the left, and a word is written once it is full.
+// Writing the marks of a tree out as words, lowest bit first: two words for each 128 marks begun, the last padded with
+// zeros. The leaves are visited from the left, and a word is written once it is full.
 ghost use mathlib.Core.List.{List, _++_};
 ghost use mathlib.Core.Bool.{Bool};
 ghost use mathlib.Core.Path.{_≡_};

@@ -1,4 +1,5 @@
--- Signed numbers as differences of natural ones: a balance is right height less left height, and a change is a height less the one before.
+-- Signed numbers as differences of natural ones: a balance is right height less left height, and a change is a height
+-- less the one before.
 use Prim.Native.Nat.{ℕ, suc, _+_, _≤_, max}
 use mathlib.Core.Path.{_≡_}
 use lib.IntN.{ℤ, pos, negsuc, natAbs}
@@ -16,8 +17,8 @@ pub record Apart (z : ℤ) (x y : ℕ) : Type 0 where
 abbrev pub Within : ℕ → ℤ → Type 0
 Within k z = natAbs z ≤ k
 
--- What is made of the heights of A, C and E when the node over A and C is lowered to the one over C and E: the balances of the lowered node and
--- of the top, and by how much the whole has grown.
+-- What is made of the heights of A, C and E when the node over A and C is lowered to the one over C and E: the balances
+-- of the lowered node and of the top, and by how much the whole has grown.
 pub record Rightward (t : Turned) (a c e : ℕ) : Type 0 where
   pub lowered : Apart (t .lowered) e c
   pub risen : Apart (t .risen) (suc (max c e)) a

@@ -7,8 +7,9 @@ use Rattle.pool.specs.declared.node.Fork.{Fork}
 use Rattle.turn.specs.Apart.{Apart}
 use Rattle.turn.specs.declared.turning.Forks.{Forks}
 
--- The heights of three trees, of which the first two stand under the child that is to rise: it is one level higher than the third tree or two,
--- and its inner child, the second tree, is at most one level higher than the first and at most two lower.
+-- The heights of three trees, of which the first two stand under the child that is to rise: it is one level higher than
+-- the third tree or two, and its inner child, the second tree, is at most one level higher than the first and at most
+-- two lower.
 pub record Leans (a c e : ℕ) : Type 0 where
   pub inner : c ≤ suc a
   pub outer : a ≤ c + 2

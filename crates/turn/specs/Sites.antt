@@ -15,7 +15,8 @@ use Rattle.pool.specs.declared.node.Fork.{Fork}
 use Rattle.pool.specs.declared.node.Node.the-variants.{Fork as fork}
 use Rattle.turn.specs.Apart.{Apart}
 
--- A balanced tree at n, no deeper than so many levels, and the free chain from `head` to `end` beside it. No number stands twice in them.
+-- A balanced tree at n, no deeper than so many levels, and the free chain from `head` to `end` beside it. No number
+-- stands twice in them.
 pub record Site (w : List ℕ) (n levels end head : ℕ) (t : Tree) (free : List ℕ) : Type 0 where
   pub rooted : Rooted w n levels t
   pub balanced : Balanced t
@@ -25,8 +26,8 @@ pub record Site (w : List ℕ) (n levels end head : ℕ) (t : Tree) (free : List
   pub first : first-of end free ≡ head
   pub few : suc (size t) < 2 ^ 32
 
--- What an edit of t has left: t′ in its place and free′ as the chain, which begins at `head` now. `by` is how much the tree has grown in
--- height. No node but those of t and of the free chain is another than it was.
+-- What an edit of t has left: t′ in its place and free′ as the chain, which begins at `head` now. `by` is how much the
+-- tree has grown in height. No node but those of t and of the free chain is another than it was.
 pub record After (w w′ : List ℕ) (end head : ℕ) (by : ℤ) (t t′ : Tree) (free free′ : List ℕ) : Type 0 where
   pub edited : Edited w w′ (numbers t ++ free) t′
   pub chained : Chained w′ end free′
@@ -49,8 +50,8 @@ fork-at-heights hl hr l r =
       balance = (hr + 2) - hl;
     }
 
--- The fork at n over l and r, of which one, by `left`, has come to its height from the height `was`. All that it says is true but the balance,
--- which is that of before.
+-- The fork at n over l and r, of which one, by `left`, has come to its height from the height `was`. All that it says
+-- is true but the balance, which is that of before.
 pub record Stale (w : List ℕ) (n : ℕ) (left : Bool) (was : ℕ) (l r : Tree) : Type 0 where
   pub says : node-at w n ≡ fork (fork-at-heights (side left was (height l)) (side left (height r) was) l r)
   pub left-holds : Holds w l

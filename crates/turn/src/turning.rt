@@ -1,5 +1,5 @@
-// Turning a tree in place, and keeping it balanced. The top number stays the top, and the risen child's number takes the lowered
-// node. Balances are signed here, and a height is told against another.
+// Turning a tree in place, and keeping it balanced. The top number stays the top, and the risen child's number takes
+// the lowered node. Balances are signed here, and a height is told against another.
 ghost use mathlib.Core.Path.{_≡_};
 ghost use Prim.Native.Nat.{ℕ, max, suc};
 ghost use Rattle.model.specs.Tree.{Tree, fork, numbers};

@@ -1,5 +1,5 @@
--- A pool that stands, with the trailer that was read: what an order may assume of its nodes, and that the pool as it is afterwards stands in the words
--- that are left.
+-- A pool that stands, with the trailer that was read: what an order may assume of its nodes, and that the pool as it is
+-- afterwards stands in the words that are left.
 use Prim.Native.Nat.{ℕ, suc, _+_, _-_, _*_, _^_, _≤_, _<_}
 use native.Mathlib.Omega.{arith}
 use borrow.Rule.Slice.PartMut.{putMid}

@@ -1,4 +1,5 @@
--- The calls' answers by what the words are: no pool's, a damaged pool's, or a pool that stands. The three exclude one another, so each answer is right.
+-- The calls' answers by what the words are: no pool's, a damaged pool's, or a pool that stands. The three exclude one
+-- another, so each answer is right.
 use Prim.Native.Nat.{ℕ, _*_, _≤_, _<_}
 use native.Mathlib.Omega.{arith}
 use mathlib.Core.Path.{_≡_, refl, sym, ap, _∙_}

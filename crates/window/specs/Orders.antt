@@ -1,5 +1,5 @@
--- The orders of a window: three words each, served one after the other on the pool that stands in its words. Two nodes may be taken where two are
--- free.
+-- The orders of a window: three words each, served one after the other on the pool that stands in its words. Two nodes
+-- may be taken where two are free.
 use Prim.Native.Nat.{ℕ}
 use mathlib.Core.Path.{_≡_}
 use mathlib.Core.Bool.{Bool}

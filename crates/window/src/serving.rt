@@ -16,8 +16,8 @@ const NODE_WORDS: usize = 6;
 // A split takes two nodes, and in a window it may take them where two are free.
 const SPLIT_NODES: u64 = 2;
 
-// Serves one order. Only an insert and a remove that are carried out change how many marks there are, and the trailer is
-// written only then.
+// Serves one order. Only an insert and a remove that are carried out change how many marks there are, and the trailer
+// is written only then.
 pub fn served(pool: &mut [u64], n: usize, number: u64, second: u64, third: u64) -> Answer
     requires { ⌜ ((p : Pool) × Stands (now pool) n p) ⌝ }
     ensures { λ r. ⌜ ((p : Pool) → Stands (now (pool .entry)) n p

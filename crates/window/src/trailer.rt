@@ -6,7 +6,8 @@ ghost use lib.ListN.{getD, length};
 ghost use Rattle.window.specs.Layout.{trailer-in};
 use pool::Chain;
 
-// The words of the trailer, but for the last, which is zero: the root, how many marks, the free chain, and how many nodes.
+// The words of the trailer, but for the last, which is zero: the root, how many marks, the free chain, and how many
+// nodes.
 pub struct Trailer {
     pub root: u64,
     pub length: u64,

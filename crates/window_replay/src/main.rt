@@ -1,5 +1,5 @@
-// Answers requests on standard input by the calls of `window`, so that the answers can be held to the published Rust's. Requests and
-// answers are words, each eight bytes, low byte first. A request is nine words and two lists:
+// Answers requests on standard input by the calls of `window`, so that the answers can be held to the published Rust's.
+// Requests and answers are words, each eight bytes, low byte first. A request is nine words and two lists:
 //
 //     size, fill        the pool's words, at most 6,150, and what stands in each of them, and of the output, before
 //     count, length     the words that are built from, at most 520, and the length
@@ -9,12 +9,12 @@
 //     shown             how many of the pool's words are told, at most 6,150
 //     the words, and three words for each order
 //
-// The answer is the code and the value of build, run, check and values, in this order; two words for each order, all ones where
-// run refused; the words of the output; and those of the pool that are shown. The program stops at the end of the input, at a part
-// of a request, or at one with a number above its limit.
+// The answer is the code and the value of build, run, check and values, in this order; two words for each order, all
+// ones where run refused; the words of the output; and those of the pool that are shown. The program stops at the end
+// of the input, at a part of a request, or at one with a number above its limit.
 //
-// Proved: the program is safe and ends. That it hands on what the library answers is not proved, but run. The files stdin and stdout
-// beside src/ are what `window_vectors sample stdin stdout` of the folder oracle makes.
+// Proved: the program is safe and ends. That it hands on what the library answers is not proved, but run. The files
+// stdin and stdout beside src/ are what `window_vectors sample stdin stdout` of the folder oracle makes.
 ghost use Prim.Native.Nat.{_+_, _*_, _≤_};
 ghost use lib.ListN as ListN;
 
@@ -344,7 +344,8 @@ fn turn() -> bool {
     )
 }
 
-// A loop has to end, and nothing says that the input does. So the turns are counted down, from a number that no run uses up.
+// A loop has to end, and nothing says that the input does. So the turns are counted down, from a number that no run
+// uses up.
 fn main() {
     let mut turns = u64::MAX;
     while turns > 0 && turn() {

@@ -20,7 +20,8 @@ write-requires c κs = search needs
 closed : tie.Need-returns Inv-loop μ-loop
 closed c =
     let turn = c .before .before .before .before in
-    (turn .play .result .at, turn .play .result .nodes, turned (turn .before .before .before .before .loop .inv) (search needs) (turn .play .ensures .0))
+    let begun = turn .before .before .before .before .loop .inv in
+    (turn .play .result .at, turn .play .result .nodes, turned begun (search needs) (turn .play .ensures .0))
 
 loop-less : tie.Need-loop-less Inv-loop μ-loop
 loop-less c = let on = c .before .before .before .before .play .ensures .1 .1 (search needs) in omega arith
