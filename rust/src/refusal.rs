@@ -59,7 +59,7 @@ impl Refusal {
             Refusal::ShortOutput => "the output has too few words",
             Refusal::PartOrder => "the orders are not a multiple of three words",
             Refusal::TooLong => "the words given hold fewer marks than the length says",
-            Refusal::LeafLacks => "the leaf that select led to lacks the mark, which no well-formed pool does",
+            Refusal::LeafLacks => "the leaf that select led to lacks the mark, which no call and no order tells",
         }
     }
 }

@@ -2,6 +2,8 @@
 // request is six words, the operation and five arguments, and its answer four words; a word is eight bytes, low byte
 // first, and what is not used is 0. It stops at the end of the input, or at a part of a request. The files stdin and
 // stdout beside src/ are what `bits_vectors sample stdin stdout` of the folder oracle makes.
+//
+// Proved: that it is safe and ends, and the library that it calls. Only run: that it hands on what the library answers.
 ghost use Prim.Native.Nat.{_+_, _*_, _≤_, _<_};
 ghost use lib.ListN.{length};
 ghost use Rattle.io.specs.Counts.{Counts};

@@ -8,7 +8,6 @@ use mathlib.Core.Bool.{Bool, true}
 use mathlib.Core.List.{List, [], _∷_, _++_, List·Memᴰ}
 use lib.ListN.{length, take, drop, getD, length-drop}
 use lib.Seq.{take-all}
-use borrow.Author.Tests.{leb-true}
 use lib.Dec.{leb}
 use Rattle.model.specs.Pool.{Pool, numbers-from, two-free}
 use Rattle.model.specs.Sound.{Distinct, Sound, all-numbers}
@@ -73,9 +72,9 @@ module _ {ws : List ℕ} {n : ℕ} {p : Pool} (s : Stands ws n p) where
 
   -- ---- what an order may assume
 
-  pub to-serve : (t : Trailer) (may : Bool) → Known n p t → may ≡ leb 2 (t .chain .count)
+  pub to-serve : (t : Trailer) (may : Bool) → Known n p t → (may ≡ true → 2 ≤ t .chain .count)
       → ToServe (take (n * 6) ws) n (record { root = t .root; length = t .length; chain = t .chain }) may p
-  to-serve t may k e = record {
+  to-serve t may k two = record {
     site = record {
       rooted = rw (k .root) (stands-rooted ws n p s);
       balanced = s .sound .balanced;
@@ -89,13 +88,14 @@ module _ {ws : List ℕ} {n : ℕ} {p : Pool} (s : Stands ws n p) where
     count = sym (k .count);
     past = none-past;
     fits = omega (arith, k .count, sound-nodes n p (s .sound), s .counted .most);
-    two = λ yes. omega (arith, k .count, leb-true 2 (t .chain .count) (sym e ∙ yes));
+    two = λ yes. omega (arith, k .count, two yes);
   }
 
   -- the rule that the code asks is the window's
-  pub rule : (t : Trailer) (may : Bool) → Known n p t → may ≡ leb 2 (t .chain .count) → may ≡ two-free p
+  pub ruled : {w w′ : List ℕ} {may : Bool} {o : Asked} {r : Serve.Served} (t : Trailer) → Known n p t → Serves w w′ n may o p r
+      → may ≡ leb 2 (t .chain .count) → Serves w w′ n (two-free p) o p r
   unfolding two-free
-  rule t may k e = e ∙ ap (leb 2) (k .count)
+  ruled t k x e = let same : _ = e ∙ ap (leb 2) (k .count) in rw same at x
 
 -- ---- the words afterwards
 
