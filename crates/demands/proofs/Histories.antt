@@ -20,12 +20,12 @@ use Rattle.build.proofs.LeafMarks.{marks-of-length}
 use Rattle.serve.specs.Answer.{code, value}
 use Rattle.window.specs.Calls.{Checked, Valued, order-count}
 use Rattle.window.specs.Layout.{Counted, Stands}
-use Rattle.window.specs.Orders.{answer-words, list-answers, orders-of}
+use Rattle.window.specs.Orders.{answer-words, list-after-all, list-answers, orders-of}
 use Rattle.serve.specs.declared.answer.Answer.the-variants.{Done}
 use Rattle.window.proofs.Pinned.{Likely, cases, words-stable}
 use Rattle.demands.specs.Following.{AgreeOrFull, AllRefused, Follows, NoneFull, carried-out, done}
 use Rattle.demands.specs.History.{Accepted, History, all-orders, log}
-use Rattle.demands.specs.Promises.{given}
+use Rattle.demands.specs.Promises.{HoldsMarks, given}
 use Rattle.demands.proofs.NothingLost as NothingLost
 use Rattle.demands.proofs.Reading.{Built, Means, accepted-means, becomes, becomes-append, build-means, done-no, runs-mean, tells, tells-append}
 use Rattle.demands.proofs.TheList as TheList
@@ -62,8 +62,11 @@ module _ {slice words : List ℕ} {len : ℕ} {begun orders ws told : List ℕ} 
   pub follows-list : Follows (log orders told) (given words len) end-marks
   follows-list = rw (← holds-end, m .tells, ← built-marks b) (TheList.follows orders (b .pool) (m .whole))
 
-  pub with-room : NoneFull (log orders told) → told ≡ answer-words (list-answers (orders-of orders) (given words len))
-  with-room f = rw (← built-marks b) (m .tells ∙ TheList.told-with-room orders (b .pool) (m .whole) (rw (m .tells) at f))
+  pub with-room : NoneFull (log orders told)
+      → (told ≡ answer-words (list-answers (orders-of orders) (given words len))) × HoldsMarks ws (list-after-all (orders-of orders) (given words len))
+  with-room f =
+      let r = TheList.told-with-room orders (b .pool) (m .whole) (rw (m .tells) at f) in
+      (rw (← built-marks b) (m .tells ∙ r .0), (b .nodes, becomes orders (b .pool), m .stands, rw (← built-marks b) (r .1)))
 
   -- ---- what check tells and values writes
 

@@ -18,7 +18,7 @@ use Rattle.serve.specs.Answer.{code, value}
 use Rattle.window.specs.Calls.{order-count}
 use Rattle.serve.specs.Orders as Serve
 use Rattle.serve.specs.Orders.{Asked, asks, list-answer, list-after}
-use Rattle.window.specs.Orders.{orders-of, no-room, answer, after, answers, after-all, answer-words, list-answers}
+use Rattle.window.specs.Orders.{orders-of, no-room, answer, after, answers, after-all, answer-words, list-after-all, list-answers}
 use Rattle.serve.specs.declared.answer.Answer.{Answer}
 use Rattle.serve.specs.declared.answer.Answer.the-variants.{Full}
 use Rattle.demands.specs.Following.{Follows, NoneFull, carried-out}
@@ -87,11 +87,12 @@ carried (n ∷ x ∷ y ∷ orders) p h =
     ∙ ap (λ (q : Pool). carried-out (log orders (tells orders (after o p))) (marks (q .tree)))
     (refused-changes-nothing o p (eqb-false (code (answer o p)) 0 t))))
 
--- where no answer is 4, all that is told is what the list answers
+-- where no answer is 4, all that is told is what the list answers, and the marks afterwards are the list's
 pub told-with-room : (orders : List ℕ) (p : Pool) → length orders % 3 ≡ 0 → NoneFull (log orders (tells orders p))
-    → tells orders p ≡ answer-words (list-answers (orders-of orders) (marks (p .tree)))
-unfolding log orders-of answers answer-words list-answers code
-told-with-room [] p h f = refl
+    → (tells orders p ≡ answer-words (list-answers (orders-of orders) (marks (p .tree))))
+    × (marks (becomes orders p .tree) ≡ list-after-all (orders-of orders) (marks (p .tree)))
+unfolding log orders-of answers after-all answer-words list-answers list-after-all code
+told-with-room [] p h f = (refl, refl)
 told-with-room (n ∷ []) p h f = absurd (omega arith)
 told-with-room (n ∷ x ∷ []) p h f = absurd (omega arith)
 told-with-room (n ∷ x ∷ y ∷ orders) p h f =
@@ -101,4 +102,5 @@ told-with-room (n ∷ x ∷ y ∷ orders) p h f =
     (λ e.
     let k = one-order o p e in
     let r = told-with-room orders (after o p) (omega arith) (f .1) in
-    rw (k .0) (ap (λ (ws : List ℕ). code (list-answer o (marks (p .tree))) ∷ value (list-answer o (marks (p .tree))) ∷ ws) (rw (sym (k .1)) r)))
+    let answered : List ℕ → List ℕ = λ ws. code (list-answer o (marks (p .tree))) ∷ value (list-answer o (marks (p .tree))) ∷ ws in
+    (rw (k .0) (ap answered (rw (sym (k .1)) (r .0))), rw (sym (k .1)) (r .1)))

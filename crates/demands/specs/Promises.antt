@@ -19,7 +19,7 @@ use Rattle.serve.specs.Answer.{code}
 use Rattle.window.specs.Calls.{BuildsTo, Checked, Valued, Ran, order-count}
 use Rattle.window.specs.Layout.{Counted, Stands}
 use Rattle.serve.specs.Orders.{Asked, inserting, bit-value, list-after}
-use Rattle.window.specs.Orders.{after-all, answer, answer-words, list-answers, orders-of}
+use Rattle.window.specs.Orders.{after-all, answer, answer-words, list-after-all, list-answers, orders-of}
 use Rattle.serve.specs.declared.answer.Answer.{Answer}
 use Rattle.serve.specs.declared.answer.Answer.the-variants.{Done, Full}
 use Rattle.demands.specs.Following.{full, ListAnswers, TellsFull, Follows, NoneFull, AllRefused, AgreeOrFull, carried-out, done}
@@ -71,12 +71,13 @@ AnswersAreTheLists =
     × Follows (log (all-orders lists) told) (given words len)
     (carried-out (log (all-orders lists) told) (given words len))
 
--- where no answer is 4, every word that was answered is the plain list's
+-- where no answer is 4, every word that was answered is the plain list's, and so are the marks that are held then
 abbrev pub WithRoomAllIsTheLists : Type 0
 WithRoomAllIsTheLists =
     (slice words : List ℕ) (len : ℕ) (lists : List (List ℕ)) (ws told : List ℕ)
     → History slice words len lists ws told → NoneFull (log (all-orders lists) told)
-    → told ≡ answer-words (list-answers (orders-of (all-orders lists)) (given words len))
+    → (told ≡ answer-words (list-answers (orders-of (all-orders lists)) (given words len)))
+    × HoldsMarks ws (list-after-all (orders-of (all-orders lists)) (given words len))
 
 -- the three words of an insert: 1, a place, and a bit
 pub record Inserts (e : Entry) : Type 0 where
