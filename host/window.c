@@ -1,18 +1,23 @@
-/* A C host: builds windows, reads them back, damages them, runs orders on them, and says where an answer is not the one that the scope
- * gives. It prints one line and ends with 0 where every answer was right. */
+/* A C host: builds windows, reads them back, damages them, runs orders on them, and says where an answer is not the one that
+ * docs/REFERENCE.md gives. It prints one line and ends with 0 where every answer was right. */
 #include <stdio.h>
 #include <string.h>
 
 #include "spelunzone.h"
 
-#define MOST_NODES 1023
-#define POOL_WORDS SZ_POOL_WORDS(MOST_NODES)
+#define POOL_WORDS SZ_POOL_WORDS(SZ_MOST_NODES)
 #define LENT_WORDS (POOL_WORDS + 18) /* more words than the greatest pool has */
 #define MARK_WORDS 512
 #define OUT_WORDS (MARK_WORDS + 64)
 #define LIST 4096
 #define ORDERS 200
 #define SPARE 0x5a5a5a5a5a5a5a5aULL
+
+/* The macros at the sizes of docs/REFERENCE.md. */
+_Static_assert(SZ_POOL_WORDS(1) == 12 && SZ_POOL_WORDS(1023) == 6144, "the words of a pool");
+_Static_assert(SZ_VALUE_WORDS(0) == 0 && SZ_VALUE_WORDS(1) == 2 && SZ_VALUE_WORDS(128) == 2 && SZ_VALUE_WORDS(129) == 4, "the words of marks");
+_Static_assert(SZ_ALWAYS_MARKS(1) == 127 && SZ_ALWAYS_MARKS(2) == 127 && SZ_ALWAYS_MARKS(3) == 128 && SZ_ALWAYS_MARKS(15) == 326, "the floor");
+_Static_assert(SZ_ALWAYS_MARKS(1023) == 16958 && SZ_BUILD_MARKS(1023) == 32768 && SZ_EVER_MARKS(1023) == 65024, "the largest pool");
 
 static uint64_t pool[LENT_WORDS], before[LENT_WORDS], marks[MARK_WORDS], out[OUT_WORDS], orders[3 * ORDERS];
 static unsigned char list[LIST];
@@ -416,16 +421,16 @@ int main(void) {
     for (int longer = 0; longer < 2; longer++) {
         for (uint64_t length = 0; length <= 700; length++)
             round_trip(length <= 64 ? 1 : 2 * ((length + 63) / 64) - 1, length, longer);
-        round_trip(MOST_NODES, 15000, longer);
-        round_trip(MOST_NODES, 64 * MARK_WORDS, longer);
+        round_trip(SZ_MOST_NODES, 15000, longer);
+        round_trip(SZ_MOST_NODES, 64 * MARK_WORDS, longer);
     }
     shapes();
     damages();
     sizes();
     lent_too_many(9, 300);
     lent_too_many(1, 0);
-    lent_too_many(MOST_NODES - 1, 15000);
-    lent_too_many(MOST_NODES, 15000);
+    lent_too_many(SZ_MOST_NODES - 1, 15000);
+    lent_too_many(SZ_MOST_NODES, 15000);
     each_order();
     full();
     run_refusals();

@@ -1,4 +1,4 @@
-/* A window as a plain array of marks, and a pool's words read as the scope lays them out. Neither knows the library's code. */
+/* A window as a plain array of marks, and a pool's words read as docs/REFERENCE.md lays them out. Neither knows the library's code. */
 #ifndef MODEL_H
 #define MODEL_H
 

@@ -13,17 +13,23 @@
 //! let orders = [Order::Insert { at: 1, mark: true }, Order::Rank { end: 4, mark: true }, Order::Access { at: 9 }];
 //! let words = orders.map(Order::words);
 //! let mut out = [0; 6];
-//! assert_eq!(run(&mut pool, words.as_flattened(), &mut out), Ok(3));
-//! let told: Vec<_> = answers(&out).collect();
+//! let served = run(&mut pool, words.as_flattened(), &mut out)?;
+//! let told: Vec<_> = answers(&out, served).collect();
 //! assert_eq!(told, [Ok(0), Ok(3), Err(spelunzone::Refusal::OutOfRange)]);
 //!
 //! let mut marks = [0; 2];
 //! assert_eq!(values(&pool, &mut marks), Ok(2));
 //! assert_eq!(marks, [0b1011, 0]);
 //! assert_eq!(check(&pool), Ok(4));
+//! # Ok::<(), spelunzone::Refusal>(())
 //! ```
 
 #![no_std]
+
+// The example of the README is compiled and run too.
+#[doc = include_str!("../README.md")]
+#[cfg(doctest)]
+struct Readme;
 
 mod library;
 mod order;
@@ -51,22 +57,25 @@ pub const fn value_words(marks: usize) -> usize {
     2 * marks.div_ceil(128)
 }
 
-/// A code and a value as they stand in the words, read: the value where the code is 0, else why it was refused.
-///
-/// # Panics
-///
-/// Where the code is above 11, which no answer of the library is.
-pub fn answer(code: u64, value: u64) -> Result<u64, Refusal> {
-    if code == 0 {
-        return Ok(value);
+/// A code and a value as they stand in the words, read: the value where the code is 0, else why it was refused. None where the code is
+/// above 11, which no answer of the library is.
+pub fn answer(code: u64, value: u64) -> Option<Result<u64, Refusal>> {
+    match code {
+        0 => Some(Ok(value)),
+        _ => Refusal::of(code).map(Err),
     }
-    debug_assert_eq!(value, 0, "a refusal has the value 0");
-    Err(Refusal::of(code).expect("a code is one of 0 to 11"))
 }
 
-/// The answers that [`run`] wrote, one for each order; words after them are read too where they are lent.
-pub fn answers(out: &[u64]) -> impl Iterator<Item = Result<u64, Refusal>> + '_ {
-    out.chunks_exact(ANSWER_WORDS).map(|two| answer(two[0], two[1]))
+/// The answers that [`run`] wrote, one for each of the orders that it served. Words after them are not read, and it ends before words that
+/// are no answer, so that it takes any words.
+pub fn answers(out: &[u64], served: u64) -> impl Iterator<Item = Result<u64, Refusal>> + '_ {
+    let most = usize::try_from(served).unwrap_or(usize::MAX);
+    out.chunks_exact(ANSWER_WORDS).take(most).map_while(|two| answer(two[0], two[1]))
+}
+
+// What a call answers.
+fn replied(reply: library::Reply) -> Result<u64, Refusal> {
+    answer(reply.code, reply.value).expect("a call of the library is answered 0 to 11")
 }
 
 /// Whether the pool is well-formed: how many marks it holds, or [`WrongSize`](Refusal::WrongSize) or [`NotSound`](Refusal::NotSound).
@@ -74,7 +83,7 @@ pub fn check(pool: &[u64]) -> Result<u64, Refusal> {
     // SAFETY: the pointer of a slice is aligned and not null, also where it is empty, and stands for as many words as its length says.
     // They are only read.
     let reply = unsafe { library::sz_check(pool.as_ptr(), pool.len()) };
-    answer(reply.code, reply.value)
+    replied(reply)
 }
 
 /// Overwrites the pool with the first marks of some words, lowest bit first: how many marks it holds, or
@@ -83,7 +92,7 @@ pub fn build(pool: &mut [u64], words: &[u64], length: u64) -> Result<u64, Refusa
     // SAFETY: the pointers are aligned and not null, also of an empty slice, and stand for as many words as the lengths say. The pool,
     // which is written, is borrowed alone, so the words do not overlap it.
     let reply = unsafe { library::sz_build(pool.as_mut_ptr(), pool.len(), words.as_ptr(), words.len(), length) };
-    answer(reply.code, reply.value)
+    replied(reply)
 }
 
 /// Writes the marks out, two words for each 128 begun, padded with zeros; later words stay: how many words, or
@@ -92,7 +101,7 @@ pub fn values(pool: &[u64], out: &mut [u64]) -> Result<u64, Refusal> {
     // SAFETY: the pointers are aligned and not null, also of an empty slice, and stand for as many words as the lengths say. The output,
     // which is written, is borrowed alone, so the pool does not overlap it.
     let reply = unsafe { library::sz_values(pool.as_ptr(), pool.len(), out.as_mut_ptr(), out.len()) };
-    answer(reply.code, reply.value)
+    replied(reply)
 }
 
 /// Serves orders, three words each, one after the other, and writes two words for each, to be read with [`answers`]; later words stay:
@@ -104,5 +113,5 @@ pub fn run(pool: &mut [u64], orders: &[u64], out: &mut [u64]) -> Result<u64, Ref
     let reply = unsafe {
         library::sz_run(pool.as_mut_ptr(), pool.len(), orders.as_ptr(), orders.len(), out.as_mut_ptr(), out.len())
     };
-    answer(reply.code, reply.value)
+    replied(reply)
 }

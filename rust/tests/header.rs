@@ -23,10 +23,11 @@ fn refusals() {
     for (refusal, number) in Refusal::ALL.into_iter().zip(1..) {
         assert_eq!(number_in_c(&name_in_c(&format!("{refusal:?}"))), number);
         assert_eq!(refusal.number(), number);
-        assert_eq!(answer(number, 0), Err(refusal));
+        assert_eq!(answer(number, 0), Some(Err(refusal)));
         assert!(refusal.to_string().ends_with(&format!("({number})")));
     }
-    assert_eq!(answer(0, 9), Ok(9));
+    assert_eq!(answer(0, 9), Some(Ok(9)));
+    assert_eq!(answer(12, 0), None);
     assert_eq!((Refusal::of(0), Refusal::of(12)), (None, None));
 }
 

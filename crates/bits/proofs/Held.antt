@@ -1,10 +1,11 @@
--- A leaf that holds marks xs is `leaf-of xs`: its bits are xs and then zeros. So each call on it, at a length and a place at which it is meant,
--- gives the leaf that holds the edited marks, or the list's own answer. The places 127 and the lengths 127 and 128 are among them.
-use Prim.Native.Nat.{ℕ, zero, suc, _+_, _-_, _^_, _≤_, _<_}
+-- A leaf that holds marks xs is `leaf-of xs`: its bits are xs and then zeros. So each call on it, at a length and a place at which it
+-- is meant, gives the leaf that holds the edited marks, or the list's own answer. The places 127 and the lengths 127 and 128 are
+-- among them.
+use Prim.Native.Nat.{ℕ, zero, suc, _+_, _-_, _≤_, _<_}
 use native.Mathlib.Nat.{div-eq-of-lt}
 use native.Mathlib.Omega.{arith}
 use mathlib.Core.Path.{_≡_, refl, sym, ap, ap₂, _∙_}
-use mathlib.Core.Bool.{Bool, true, false}
+use mathlib.Core.Bool.{Bool, false}
 use mathlib.Core.List.{List, [], _∷_, _++_, append-assoc, append-nil}
 use lib.ListN.{length, take, drop, getD, replicate, replicate-append-replicate, length-drop, drop-of-length-le, take-append-drop}
 use lib.Seq.{drop-nil, take-append-le, take-append-seam, take-all, length-take-le}
@@ -54,7 +55,8 @@ held-bits xs h = by-ltb (length xs) 64 (λ e l. few l) (λ e l. many l)
     few : length xs < 64 → bits 64 (packed xs) ++ bits 64 (packed (drop 64 xs)) ≡ xs ++ replicate (128 - length xs) false
     few l =
         let width : (64 - length xs) + 64 ≡ 128 - length xs = omega arith in
-        ap₂ (λ (ys zs : List Bool). ys ++ zs) (word-bits xs (omega arith)) (ap (λ (ys : List Bool). bits 64 (packed ys)) (drop-of-length-le xs {i = 64} (omega arith)) ∙ word-bits [] (omega arith))
+        let nothing = ap (λ (ys : List Bool). bits 64 (packed ys)) (drop-of-length-le xs {i = 64} (omega arith)) ∙ word-bits [] (omega arith) in
+        ap₂ (λ (ys zs : List Bool). ys ++ zs) (word-bits xs (omega arith)) nothing
         ∙ append-assoc xs (replicate (64 - length xs) false) (replicate 64 false)
         ∙ ap (λ (ys : List Bool). xs ++ ys) (replicate-append-replicate (64 - length xs) 64 false ∙ ap (λ (n : ℕ). replicate n false) width)
 
@@ -99,7 +101,9 @@ module _ (xs : List Bool) where
 
   pub rank-held : (b : Bool) (end : ℕ) → length xs ≤ 128 → end ≤ length xs → rank b end (bits-of (leaf-of xs)) ≡ rank b end xs
   unfolding rank
-  rank-held b end h l = ap (λ (ys : List Bool). count b (take end ys)) (held-bits xs h) ∙ ap (count b) (take-append-le end xs (replicate (128 - length xs) false) l)
+  rank-held b end h l =
+      ap (λ (ys : List Bool). count b (take end ys)) (held-bits xs h)
+      ∙ ap (count b) (take-append-le end xs (replicate (128 - length xs) false) l)
 
   -- past the marks both are quiet
   pub access-held : (i : ℕ) → length xs ≤ 128 → access i (bits-of (leaf-of xs)) ≡ access i xs

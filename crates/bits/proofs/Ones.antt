@@ -1,10 +1,8 @@
 -- The machine's count of ones, over the width of the word: it is the number of set bits in the word's list, and small.
-use Prim.Native.Nat.{ℕ, _^_, _≤_, _<_}
+use Prim.Native.Nat.{ℕ, _^_, _<_}
 use native.Mathlib.Nat.{mod-eq-of-lt, lt-of-le-of-lt}
-use native.Mathlib.Omega.{arith}
 use mathlib.Core.Path.{_≡_, sym, ap, _∙_}
 use lib.Count as Count
-use lib.Dec.{lit<}
 use mir.Syntax.{w64}
 use mir.Val.{Fits}
 use Rattle.model.specs.Marks.{ones}

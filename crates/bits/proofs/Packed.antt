@@ -5,19 +5,18 @@ use native.Mathlib.Numerals.{add-one}
 use native.Mathlib.Omega.{arith}
 use mathlib.Core.Path.{_≡_, refl, sym, ap, ap₂, _∙_}
 use mathlib.Core.Bool.{Bool, true, false}
-use mathlib.Core.List.{List, [], _∷_, _++_, append-nil}
+use mathlib.Core.List.{List, [], _∷_, _++_}
 use lib.Arith.{digits-div, digits-mod, digits-lt}
 use lib.Count as Count
 use lib.Bits.{bitOr, or-shifted}
 use lib.ListN.{length, take, drop, replicate}
 use lib.Pow.{pow-pos, pow-mono, pow-lt, mod-pow-add, shl-shr, shr-shr, shr-lt, pow-add, split}
-use lib.Seq.{take-all, take-append-le, take-length, drop-at, take-at}
+use lib.Seq.{take-all, take-append-le}
 use mir.Val.{boolByte}
 use Rattle.model.specs.Marks.{insert, ones, remove}
 use Rattle.model.specs.Word.{odd, bits, digit, number}
-use Rattle.model.proofs.Words.{ones-bits, bits-add, bits-join, bits-length, bits-mod, take-bits, drop-bits, number-bits, digit-lt, odd-digit}
-use Rattle.bits.specs.Leaf.{packed, leaf-of, bits-of, halves-of}
-use Rattle.bits.specs.declared.leaf.Leaf.{Leaf}
+use Rattle.model.proofs.Words.{ones-bits, bits-join, bits-length, bits-mod, take-bits, drop-bits, number-bits, digit-lt, odd-digit}
+use Rattle.bits.specs.Leaf.{packed}
 
 -- ---- shifts
 
@@ -90,8 +89,10 @@ unfolding remove
 remove-bits at n w =
     let past : at + suc n ≡ suc at + n = omega arith in
     let half : w / 2 ^ suc at ≡ w / 2 ^ at / 2 = rw (← add-one at) (sym (shr-shr w at 1)) in
-    ap₂ (λ (x y : List Bool). x ++ y) (take-bits at (at + suc n) w (omega arith)) (ap (λ (m : ℕ). drop (suc at) (bits m w)) past ∙ drop-bits (suc at) n w ∙ ap (bits n) half)
-    ∙ sym (bits-join at n (w / 2 ^ at / 2) (w % 2 ^ at) (mod-lt w (pow-pos at)) ∙ ap (λ (x : List Bool). x ++ bits n (w / 2 ^ at / 2)) (bits-mod at w))
+    ap₂ (λ (x y : List Bool). x ++ y) (take-bits at (at + suc n) w (omega arith))
+    (ap (λ (m : ℕ). drop (suc at) (bits m w)) past ∙ drop-bits (suc at) n w ∙ ap (bits n) half)
+    ∙ sym (bits-join at n (w / 2 ^ at / 2) (w % 2 ^ at) (mod-lt w (pow-pos at))
+    ∙ ap (λ (x : List Bool). x ++ bits n (w / 2 ^ at / 2)) (bits-mod at w))
 
 one-bit : (b : Bool) → bits 1 (digit b) ≡ b ∷ []
 unfolding bits odd digit
@@ -128,11 +129,12 @@ module _ (at : ℕ) (h : at < 64) (w : ℕ) where
         let value : w / 2 ^ at * 2 ^ suc at + low ≡ (w / 2 ^ at * 2 + digit b) * 2 ^ at + w % 2 ^ at = rw (← moved) (omega arith) in
         let width : 64 ≡ at + (64 - at) = omega arith in
         let longer : at + suc (64 - at) ≡ 64 + 1 = omega arith in
+        let edited = ap (λ (n : ℕ). insert at b (bits n w)) width ∙ insert-bits at (64 - at) w b in
         rw (above, moved, put)
         (shl-or (suc at) (63 - at) (w / 2 ^ at) low (omega arith) small
         ∙ ap (λ (x : ℕ). x % 2 ^ 64) value
         ∙ sym (packed-bits 1 ((w / 2 ^ at * 2 + digit b) * 2 ^ at + w % 2 ^ at))
-        ∙ ap packed (sym (ap (λ (n : ℕ). insert at b (bits n w)) width ∙ insert-bits at (64 - at) w b ∙ ap (λ (n : ℕ). bits n ((w / 2 ^ at * 2 + digit b) * 2 ^ at + w % 2 ^ at)) longer)))
+        ∙ ap packed (sym (edited ∙ ap (λ (n : ℕ). bits n ((w / 2 ^ at * 2 + digit b) * 2 ^ at + w % 2 ^ at)) longer)))
 
     pub removed-word : bitOr ((digit b * 2 ^ 63) % 2 ^ 64) (bitOr ((w / 2 ^ at / 2 * 2 ^ at) % 2 ^ 64) (w % 2 ^ at))
         ≡ packed (remove at (bits 64 w) ++ b ∷ [])

@@ -1,39 +1,35 @@
--- Every public contract determines its result: two results that it allows for the same arguments are equal. Each law speaks of the contract as
--- the check reads it off the source; `Post` takes the lifetimes, the arguments, the result and what the call leaves behind references.
-use mathlib.Core.Path.{_≡_, sym, _∙_}
-use Rattle.bits.proofs.leaf.Leaf.bit_at.Reads as bit-at
-use Rattle.bits.proofs.leaf.Leaf.count_before.Reads as count-before
+-- Every public contract determines its result: two results that it allows for the same arguments are equal.
+use Rattle.model.specs.Contract.{Pinned}
+use Rattle.model.proofs.Contracts.{one-value}
 use Rattle.bits.proofs.leaf.Leaf.insert.Reads as insert
-use Rattle.bits.proofs.leaf.Leaf.join.Reads as join
 use Rattle.bits.proofs.leaf.Leaf.remove.Reads as remove
+use Rattle.bits.proofs.leaf.Leaf.join.Reads as join
 use Rattle.bits.proofs.leaf.Leaf.split.Reads as split
-use Rattle.bits.proofs.select.select128.Reads as select128
-use Rattle.bits.proofs.select.select32.Reads as select32
-use Rattle.bits.proofs.select.select64.Reads as select64
+use Rattle.bits.proofs.leaf.Leaf.count_before.Reads as count-before
+use Rattle.bits.proofs.leaf.Leaf.bit_at.Reads as bit-at
+use Rattle.bits.proofs.count.ones32.Reads as ones32
+use Rattle.bits.proofs.count.ones64.Reads as ones64
 
-pub select32-pinned : (κs : _) (a : _) (r r′ : _) (w w′ : _) → select32.Post κs a r w → select32.Post κs a r′ w′ → r ≡ r′
-select32-pinned κs a r r′ w w′ p q = p ∙ sym q
+pub insert-pinned : Pinned insert.Post
+insert-pinned = one-value (λ κs a r w e. e)
 
-pub select64-pinned : (κs : _) (a : _) (r r′ : _) (w w′ : _) → select64.Post κs a r w → select64.Post κs a r′ w′ → r ≡ r′
-select64-pinned κs a r r′ w w′ p q = p ∙ sym q
+pub remove-pinned : Pinned remove.Post
+remove-pinned = one-value (λ κs a r w e. e)
 
-pub select128-pinned : (κs : _) (a : _) (r r′ : _) (w w′ : _) → select128.Post κs a r w → select128.Post κs a r′ w′ → r ≡ r′
-select128-pinned κs a r r′ w w′ p q = p ∙ sym q
+pub join-pinned : Pinned join.Post
+join-pinned = one-value (λ κs a r w e. e)
 
-pub insert-pinned : (κs : _) (a : _) (r r′ : _) (w w′ : _) → insert.Post κs a r w → insert.Post κs a r′ w′ → r ≡ r′
-insert-pinned κs a r r′ w w′ p q = p ∙ sym q
+pub split-pinned : Pinned split.Post
+split-pinned = one-value (λ κs a r w e. e)
 
-pub remove-pinned : (κs : _) (a : _) (r r′ : _) (w w′ : _) → remove.Post κs a r w → remove.Post κs a r′ w′ → r ≡ r′
-remove-pinned κs a r r′ w w′ p q = p ∙ sym q
+pub count-before-pinned : Pinned count-before.Post
+count-before-pinned = one-value (λ κs a r w e. e)
 
-pub join-pinned : (κs : _) (a : _) (r r′ : _) (w w′ : _) → join.Post κs a r w → join.Post κs a r′ w′ → r ≡ r′
-join-pinned κs a r r′ w w′ p q = p ∙ sym q
+pub bit-at-pinned : Pinned bit-at.Post
+bit-at-pinned = one-value (λ κs a r w e. e)
 
-pub split-pinned : (κs : _) (a : _) (r r′ : _) (w w′ : _) → split.Post κs a r w → split.Post κs a r′ w′ → r ≡ r′
-split-pinned κs a r r′ w w′ p q = p ∙ sym q
+pub ones32-pinned : Pinned ones32.Post
+ones32-pinned = one-value (λ κs a r w e. e)
 
-pub count-before-pinned : (κs : _) (a : _) (r r′ : _) (w w′ : _) → count-before.Post κs a r w → count-before.Post κs a r′ w′ → r ≡ r′
-count-before-pinned κs a r r′ w w′ p q = p ∙ sym q
-
-pub bit-at-pinned : (κs : _) (a : _) (r r′ : _) (w w′ : _) → bit-at.Post κs a r w → bit-at.Post κs a r′ w′ → r ≡ r′
-bit-at-pinned κs a r r′ w w′ p q = p ∙ sym q
+pub ones64-pinned : Pinned ones64.Post
+ones64-pinned = one-value (λ κs a r w e. e)

@@ -1,21 +1,20 @@
--- A leaf's 128 bits are its low word's 64 and then its high word's 64. Each edit of the list falls apart into edits of the words; what moves from
--- one word to the other is one bit, or the top of a word.
-use Prim.Native.Nat.{ℕ, zero, suc, _+_, _-_, _*_, _/_, _%_, _^_, _≤_, _<_, min}
-use native.Mathlib.Nat.{div-one}
+-- A leaf's 128 bits are its low word's 64 and then its high word's 64. Each edit of the list falls apart into edits of the words;
+-- what moves from one word to the other is one bit, or the top of a word.
+use Prim.Native.Nat.{ℕ, suc, _+_, _-_, _/_, _^_, _≤_, _<_, min}
 use native.Mathlib.Numerals.{add-one}
 use native.Mathlib.Omega.{arith}
 use mathlib.Core.Path.{_≡_, refl, sym, ap, ap₂, _∙_}
 use mathlib.Core.Bool.{Bool, true, false}
 use mathlib.Core.List.{List, [], _∷_, _++_, append-assoc, append-nil}
-use lib.ListN.{length, take, drop, getD, length-append, length-take, List·getD-append, List·getD-eq-default}
+use lib.ListN.{length, take, drop, length-append, length-take, List·getD-append, List·getD-eq-default}
 use lib.Pow.{shr-shr}
-use lib.Seq.{length-take-le, take-append-le, take-append-add, take-all, drop-at, take-at, drop-append-add, getD-append-add}
+use lib.Seq.{length-take-le, take-append-le, take-append-add, take-all, drop-at, take-at, getD-append-add}
 use Rattle.model.specs.Marks.{access, insert, ones, rank, count, remove, wanted}
 use Rattle.model.specs.Word.{odd, bits, number}
 use Rattle.model.proofs.Counting.{count-both, ones-append, ones-le}
 use Rattle.model.proofs.MarksEdits.{insert-first, insert-past, remove-first, remove-past, length-insert, length-remove}
-use Rattle.model.proofs.Words.{bits-add, bits-at, bits-length, bits-mod, take-bits, drop-bits}
-use Rattle.bits.specs.Leaf.{packed, leaf-of, bits-of, halves-of}
+use Rattle.model.proofs.Words.{bits-add, bits-at, bits-length, take-bits}
+use Rattle.bits.specs.Leaf.{packed, leaf-of, halves-of}
 use Rattle.bits.specs.declared.leaf.Leaf.{Leaf}
 use Rattle.bits.specs.declared.leaf.Halves.{Halves}
 use Rattle.bits.proofs.Packed.{packed-own, packed-enough, packed-padded}
@@ -45,13 +44,19 @@ remove-front x xs = refl
 
 -- ---- the two words of a leaf, a below b
 
-module _ (a b : ℕ) where
+module _ (self : Leaf) where
+  abbrev a : ℕ
+  a = self .low
+
+  abbrev b : ℕ
+  b = self .high
+
   -- the low word's last bit goes with the high word's
   last-apart : bits 64 a ++ bits 64 b ≡ bits 63 a ++ odd (a / 2 ^ 63) ∷ bits 64 b
   unfolding bits
   last-apart = ap (λ (xs : List Bool). xs ++ bits 64 b) (bits-add 63 1 a) ∙ append-assoc (bits 63 a) (odd (a / 2 ^ 63) ∷ []) (bits 64 b)
 
-  both-length : length (bits 64 a ++ bits 64 b) ≡ 128
+  pub both-length : length (bits 64 a ++ bits 64 b) ≡ 128
   both-length = length-append (bits 64 a) (bits 64 b) ∙ ap₂ (λ (x y : ℕ). x + y) (bits-length 64 a) (bits-length 64 b)
 
   -- an edit of the high word leaves the low one
@@ -69,7 +74,8 @@ module _ (a b : ℕ) where
   -- ---- insert
 
   module _ (i : ℕ) (x : Bool) where
-    pub insert-low : {low high : ℕ} → i < 64 → low ≡ packed (insert i x (bits 64 a)) → high ≡ packed (insert 0 (odd (a / 2 ^ 63)) (bits 64 b))
+    pub insert-low : {low high : ℕ} → i < 64 → low ≡ packed (insert i x (bits 64 a))
+        → high ≡ packed (insert 0 (odd (a / 2 ^ 63)) (bits 64 b))
         → _≡_ {A = Leaf} (record { low = low; high = high }) (leaf-of (insert i x (bits 64 a ++ bits 64 b)))
     unfolding bits
     insert-low h l m =
@@ -88,7 +94,8 @@ module _ (a b : ℕ) where
         let n : length (bits 64 a) ≡ 64 = bits-length 64 a in
         high-edit h _ (insert (i - 64) x (bits 64 b)) (rw n at (insert-past i x (bits 64 a) (bits 64 b) (omega arith))) m
 
-    pub insert-none : a < 2 ^ 64 → b < 2 ^ 64 → 128 ≤ i → _≡_ {A = Leaf} (record { low = a; high = b }) (leaf-of (insert i x (bits 64 a ++ bits 64 b)))
+    pub insert-none : a < 2 ^ 64 → b < 2 ^ 64 → 128 ≤ i
+        → _≡_ {A = Leaf} (record { low = a; high = b }) (leaf-of (insert i x (bits 64 a ++ bits 64 b)))
     unfolding insert
     insert-none h l m =
         let n = both-length in
@@ -98,7 +105,8 @@ module _ (a b : ℕ) where
   -- ---- remove
 
   module _ (i : ℕ) where
-    pub remove-low : {low high : ℕ} → i < 64 → low ≡ packed (remove i (bits 64 a) ++ odd b ∷ []) → high ≡ packed (remove 0 (bits 64 b) ++ false ∷ [])
+    pub remove-low : {low high : ℕ} → i < 64 → low ≡ packed (remove i (bits 64 a) ++ odd b ∷ [])
+        → high ≡ packed (remove 0 (bits 64 b) ++ false ∷ [])
         → _≡_ {A = Leaf} (record { low = low; high = high }) (leaf-of (remove i (bits 64 a ++ bits 64 b)))
     unfolding bits
     remove-low h l m =
@@ -117,7 +125,8 @@ module _ (a b : ℕ) where
         high-edit h _ (remove (i - 64) (bits 64 b)) (rw n at (remove-past i (bits 64 a) (bits 64 b) (omega arith)))
         (m ∙ packed-padded 1 (remove (i - 64) (bits 64 b)))
 
-    pub remove-none : a < 2 ^ 64 → b < 2 ^ 64 → 128 ≤ i → _≡_ {A = Leaf} (record { low = a; high = b }) (leaf-of (remove i (bits 64 a ++ bits 64 b)))
+    pub remove-none : a < 2 ^ 64 → b < 2 ^ 64 → 128 ≤ i
+        → _≡_ {A = Leaf} (record { low = a; high = b }) (leaf-of (remove i (bits 64 a ++ bits 64 b)))
     unfolding remove
     remove-none h l m =
         let n = both-length in
@@ -126,7 +135,13 @@ module _ (a b : ℕ) where
 
   -- ---- join: n bits of this leaf, and then the words c and d of another
 
-  module _ (n c d : ℕ) where
+  module _ (n : ℕ) (other : Leaf) where
+    abbrev c : ℕ
+    c = other .low
+
+    abbrev d : ℕ
+    d = other .high
+
     abbrev joined : List Bool
     joined = take n (bits 64 a ++ bits 64 b) ++ (bits 64 c ++ bits 64 d)
 
@@ -140,13 +155,16 @@ module _ (a b : ℕ) where
         let width : 64 ≡ (64 - n) + n = omega arith in
         let cut : bits 64 c ≡ bits (64 - n) c ++ top = ap (λ (x : ℕ). bits x c) width ∙ bits-add (64 - n) n c in
         let shift : (63 - n) + 1 ≡ 64 - n = omega arith in
-        let carried : take n (bits 64 _) ≡ top = take-bits n 64 _ (omega arith) ∙ ap (bits n) (e ∙ shr-shr c (63 - n) 1 ∙ ap (λ (x : ℕ). c / 2 ^ x) shift) in
+        let above = e ∙ shr-shr c (63 - n) 1 ∙ ap (λ (x : ℕ). c / 2 ^ x) shift in
+        let carried : take n (bits 64 _) ≡ top = take-bits n 64 _ (omega arith) ∙ ap (bits n) above in
         let size : length first ≡ 64 =
         length-append (take n (bits 64 a)) (bits (64 - n) c)
         ∙ ap₂ (λ (x y : ℕ). x + y) (length-take-le n (bits 64 a) (omega arith)) (bits-length (64 - n) c) ∙ omega arith in
         leaf-is _ first (top ++ bits 64 d)
-        (ap₂ (λ (xs ys : List Bool). xs ++ (ys ++ bits 64 d)) (take-append-le n (bits 64 a) (bits 64 b) (omega arith)) cut ∙ simp append-assoc) size
-        (l ∙ ap (λ (xs : List Bool). packed (take n (bits 64 a) ++ xs)) cut ∙ ap packed (sym (append-assoc (take n (bits 64 a)) (bits (64 - n) c) top))
+        (ap₂ (λ (xs ys : List Bool). xs ++ (ys ++ bits 64 d)) (take-append-le n (bits 64 a) (bits 64 b) (omega arith)) cut
+        ∙ simp append-assoc) size
+        (l ∙ ap (λ (xs : List Bool). packed (take n (bits 64 a) ++ xs)) cut
+        ∙ ap packed (sym (append-assoc (take n (bits 64 a)) (bits (64 - n) c) top))
         ∙ packed-enough first top (omega arith))
         (m ∙ ap (λ (xs : List Bool). packed (xs ++ bits 64 d)) carried)
 
@@ -160,7 +178,8 @@ module _ (a b : ℕ) where
         high-edit h _ (front ++ (bits 64 c ++ bits 64 d))
         (ap (λ (xs : List Bool). xs ++ (bits 64 c ++ bits 64 d)) (rw at at (take-append-add (bits 64 a) (bits 64 b) (n - 64)))
         ∙ append-assoc (bits 64 a) front (bits 64 c ++ bits 64 d))
-        (m ∙ sym (packed-enough (front ++ bits 64 c) (bits 64 d) (rw length-append (omega arith))) ∙ ap packed (append-assoc front (bits 64 c) (bits 64 d)))
+        (m ∙ sym (packed-enough (front ++ bits 64 c) (bits 64 d) (rw length-append (omega arith)))
+        ∙ ap packed (append-assoc front (bits 64 c) (bits 64 d)))
 
     pub join-none : a < 2 ^ 64 → b < 2 ^ 64 → 128 ≤ n → _≡_ {A = Leaf} (record { low = a; high = b }) (leaf-of joined)
     join-none h l m =

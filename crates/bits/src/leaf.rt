@@ -1,6 +1,9 @@
 // A leaf of the tree: up to 128 marks in two words, the first mark the lowest bit of `low`, and zeros past the last
 // mark. Each edit hands the new leaf back. Every method takes any leaf and any numbers: a place past bit 127 is where
 // nothing is done.
+use crate::BLOCK_BITS;
+use crate::TOP_BIT;
+use crate::WORD_BITS;
 use crate::count::ones64;
 ghost use mathlib.Core.Bool.{true};
 ghost use mathlib.Core.List.{[], _++_, _∷_};
@@ -26,17 +29,17 @@ impl Leaf {
     pub fn insert(self, at: u64, bit: bool) -> Leaf
         ensures { λ r. ⌜ r ≡ leaf-of (inserted at bit (bits-of self)) ⌝ }
     {
-        if at < 64 {
-            let over = (self.low >> 63) % 2 == 1;
+        if at < WORD_BITS {
+            let over = (self.low >> TOP_BIT) % 2 == 1;
             return Leaf {
                 low: word_insert(self.low, at, bit),
                 high: word_insert(self.high, 0, over),
             };
         }
-        if at < 128 {
+        if at < BLOCK_BITS {
             return Leaf {
                 low: self.low,
-                high: word_insert(self.high, at - 64, bit),
+                high: word_insert(self.high, at - WORD_BITS, bit),
             };
         }
         self
@@ -46,17 +49,17 @@ impl Leaf {
     pub fn remove(self, at: u64) -> Leaf
         ensures { λ r. ⌜ r ≡ leaf-of (removed at (bits-of self)) ⌝ }
     {
-        if at < 64 {
+        if at < WORD_BITS {
             let next = self.high % 2 == 1;
             return Leaf {
                 low: word_remove(self.low, at, next),
                 high: word_remove(self.high, 0, false),
             };
         }
-        if at < 128 {
+        if at < BLOCK_BITS {
             return Leaf {
                 low: self.low,
-                high: word_remove(self.high, at - 64, false),
+                high: word_remove(self.high, at - WORD_BITS, false),
             };
         }
         self
@@ -66,17 +69,17 @@ impl Leaf {
     pub fn join(self, len: u64, other: Leaf) -> Leaf
         ensures { λ r. ⌜ r ≡ leaf-of (take len (bits-of self) ++ bits-of other) ⌝ }
     {
-        if len < 64 {
-            let over = (other.low >> (63 - len)) >> 1;
+        if len < WORD_BITS {
+            let over = (other.low >> (TOP_BIT - len)) >> 1;
             return Leaf {
                 low: word_join(self.low, len, other.low),
                 high: word_join(over, len, other.high),
             };
         }
-        if len < 128 {
+        if len < BLOCK_BITS {
             return Leaf {
                 low: self.low,
-                high: word_join(self.high, len - 64, other.low),
+                high: word_join(self.high, len - WORD_BITS, other.low),
             };
         }
         self
@@ -105,21 +108,21 @@ impl Leaf {
         if bit {
             return ones;
         }
-        if end < 128 {
+        if end < BLOCK_BITS {
             return end - ones;
         }
-        128 - ones
+        BLOCK_BITS - ones
     }
 
     // The bit at a place; a zero past the end.
     pub fn bit_at(self, at: u64) -> bool
         ensures { λ r. ⌜ r ≡ access at (bits-of self) ⌝ }
     {
-        if at < 64 {
+        if at < WORD_BITS {
             return (self.low >> at) % 2 == 1;
         }
-        if at < 128 {
-            return (self.high >> (at - 64)) % 2 == 1;
+        if at < BLOCK_BITS {
+            return (self.high >> (at - WORD_BITS)) % 2 == 1;
         }
         false
     }
@@ -149,7 +152,7 @@ fn word_remove(word: u64, at: u64, next: bool) -> u64
     ensures { λ r. ⌜ r ≡ packed (removed at (bits 64 word) ++ next ∷ []) ⌝ }
 {
     let above = ((word >> at) >> 1) << at;
-    let put = (next as u64) << 63;
+    let put = (next as u64) << TOP_BIT;
     put | (above | word_below(word, at))
 }
 
@@ -165,7 +168,7 @@ fn word_join(word: u64, len: u64, other: u64) -> u64
 fn ones_below(word: u64, n: u64) -> u64
     ensures { λ r. ⌜ r ≡ ones (take n (bits 64 word)) ⌝ }
 {
-    if n < 64 {
+    if n < WORD_BITS {
         return ones64(word_below(word, n));
     }
     ones64(word)
@@ -176,8 +179,8 @@ fn ones_before(leaf: Leaf, end: u64) -> u64
     ensures { λ r. ⌜ r ≡ rank true end (bits-of leaf) ⌝ }
 {
     let low = ones_below(leaf.low, end);
-    if end < 64 {
+    if end < WORD_BITS {
         return low;
     }
-    low + ones_below(leaf.high, end - 64)
+    low + ones_below(leaf.high, end - WORD_BITS)
 }

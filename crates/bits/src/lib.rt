@@ -1,12 +1,17 @@
-// A word's k-th bit, and the leaf of two words with its edits. Bits count from the lowest, and a word is the list of
-// its bits.
+// A leaf of two words with its edits, and how many bits of a word are set. Bits count from the lowest, and a word is
+// the list of its bits.
 mod count;
 mod leaf;
-mod select;
 
+pub use count::ones32;
+pub use count::ones64;
 pub use leaf::Halves;
 pub use leaf::Leaf;
-pub use select::Place;
-pub use select::select32;
-pub use select::select64;
-pub use select::select128;
+
+// The bits of a word, and of the two words of a leaf.
+pub const WORD_BITS: u64 = 64;
+
+pub const BLOCK_BITS: u64 = 128;
+
+// The place of a word's highest bit.
+pub const TOP_BIT: u64 = 63;

@@ -1,15 +1,15 @@
-// Answers requests on standard input by the library `bits`, so that its answers can be held to the published Rust's. A
-// request is six words, the operation and five arguments, and its answer four words; a word is eight bytes, low byte
-// first, and what is not used is 0. It stops at the end of the input, or at a part of a request. The files stdin and
-// stdout beside src/ are what `bits_vectors sample stdin stdout` of the folder oracle makes.
+// Answers requests on standard input by the libraries `bits` and `select`, so that their answers can be held to the
+// published Rust's. A request is six words, the operation and five arguments, and its answer four words; a word is
+// eight bytes, low byte first, and what is not used is 0. It stops at the end of the input, or at a part of a request.
+// The files stdin and stdout beside src/ are what `bits_vectors sample stdin stdout` of the folder oracle makes.
 //
-// Proved: that it is safe and ends, and the library that it calls. Only run: that it hands on what the library answers.
+// Proved: that it is safe and ends, and the libraries that it calls. Only run: that it hands on what they answer.
 ghost use Prim.Native.Nat.{_+_, _*_, _≤_, _<_};
 ghost use lib.ListN.{length};
 ghost use Rattle.io.specs.Counts.{Counts};
 use bits::Halves;
 use bits::Leaf;
-use bits::Place;
+use select::Place;
 
 // The bytes of a request and of its answer, and of 1,024 of each.
 const REQUEST: usize = 48;
@@ -136,9 +136,9 @@ fn answered(r: Request) -> Answer {
     };
     let operation = r.operation;
     match operation {
-        1 => of_place(bits::select32((r.a % 4294967296) as u32, r.b != 0, r.c)),
-        2 => of_place(bits::select64(r.a, r.b != 0, r.c)),
-        3 => of_place(bits::select128(r.a, r.b, r.c != 0, r.d)),
+        1 => of_place(select::select32((r.a % 4294967296) as u32, r.b != 0, r.c)),
+        2 => of_place(select::select64(r.a, r.b != 0, r.c)),
+        3 => of_place(select::select128(r.a, r.b, r.c != 0, r.d)),
         4 => of_leaf(leaf.insert(r.c, r.d != 0)),
         5 => of_leaf(leaf.remove(r.c)),
         6 => of_leaf(leaf.join(r.c, other)),
@@ -165,7 +165,7 @@ fn answer_each(asked: &[u8], count: usize, told: &mut [u8]) -> usize
 }
 
 // Reads what fits, answers each whole request of it, and says whether more may follow.
-fn turn() -> bool {
+fn next() -> bool {
     let mut asked = [0u8; ASKED];
     let got = io::read_full(libc::STDIN_FILENO, &mut asked);
     let mut told = [0u8; TOLD];
@@ -173,11 +173,11 @@ fn turn() -> bool {
     io::write_all(libc::STDOUT_FILENO, &told[..end]) && got == ASKED
 }
 
-// A loop has to end, and nothing says that the input does. So the turns are counted down, from a number that no run
+// A loop has to end, and nothing says that the input does. So the rounds are counted down, from a number that no run
 // uses up.
 fn main() {
-    let mut turns = u64::MAX;
-    while turns > 0 && turn() {
-        turns -= 1;
+    let mut rounds = u64::MAX;
+    while rounds > 0 && next() {
+        rounds -= 1;
     }
 }

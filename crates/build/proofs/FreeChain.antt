@@ -18,7 +18,8 @@ unfolding first-of numbers-from
 first-from end n zero e = omega arith
 first-from end n (suc k) e = refl
 
-pub chained-from : (w : List ℕ) (end n k : ℕ) → n + k ≡ end → ((j : ℕ) → n ≤ j → j < end → node-at w j ≡ Node.Free (suc j)) → Chained w end (numbers-from n k)
+pub chained-from : (w : List ℕ) (end n k : ℕ) → n + k ≡ end → ((j : ℕ) → n ≤ j → j < end → node-at w j ≡ Node.Free (suc j))
+    → Chained w end (numbers-from n k)
 unfolding numbers-from
 chained-from w end n zero e free = tt
 chained-from w end n (suc k) e free = (

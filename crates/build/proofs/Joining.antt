@@ -56,7 +56,8 @@ leaf-summed {n} xs p =
       below = λ k q. ⊎-elim (λ e. omega arith) (λ none. absurd (List·Memᴰ·not-nil none)) (List·Memᴰ·cases-cons q);
     }
 
-module _ {w w′ : List ℕ} (n : ℕ) (l r : Tree) (a b : Item) (p : Put w w′ n (Node.Fork (fork-over a b))) (left : Summed w n l a) (right : Summed w n r b) where
+module _ {w w′ : List ℕ} (n : ℕ) (l r : Tree) (a b : Item) (p : Put w w′ n (Node.Fork (fork-over a b))) (left : Summed w n l a)
+    (right : Summed w n r b) where
   pub fork-summed : Summed w′ (suc n) (fork n l r) (item-over n a b)
   unfolding top size marks height numbers fork-of
   fork-summed =
@@ -82,7 +83,8 @@ module _ {w w′ : List ℕ} (n : ℕ) (l r : Tree) (a b : Item) (p : Put w w′
             ⊎-elim
             (λ e. omega arith)
             (λ deeper.
-            ⊎-elim (λ m. let h = left .below k m in omega arith) (λ m. let h = right .below k m in omega arith) (List·Memᴰ·append-cases (numbers l) deeper))
+            ⊎-elim (λ m. let h = left .below k m in omega arith) (λ m. let h = right .below k m in omega arith)
+            (List·Memᴰ·append-cases (numbers l) deeper))
             (List·Memᴰ·cases-cons q);
       }
 

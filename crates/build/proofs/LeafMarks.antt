@@ -33,7 +33,8 @@ marks-past (suc i) (w ∷ ws) =
 drop-take : (n m : ℕ) (xs : List Bool) → n ≤ m → n ≤ length xs → drop n (take m xs) ≡ take (m - n) (drop n xs)
 drop-take n m xs h l =
     let e : m ≡ n + (m - n) = omega arith in
-    ap (λ (k : ℕ). drop n (take k xs)) e ∙ ap (drop n) (take-add n (m - n) xs) ∙ drop-at (take n xs) (take (m - n) (drop n xs)) n (length-take-le n xs l)
+    ap (λ (k : ℕ). drop n (take k xs)) e ∙ ap (drop n) (take-add n (m - n) xs)
+    ∙ drop-at (take n xs) (take (m - n) (drop n xs)) n (length-take-le n xs l)
 
 take-least : (n m : ℕ) (xs : List Bool) → take n (take m xs) ≡ take (min n m) xs
 take-least n m xs =
@@ -69,7 +70,8 @@ module _ (ws : List ℕ) (total i : ℕ) where
 -- ---- and in a leaf
 
 -- the first marks of a word, alone in a leaf
-pub first-of-word : (w n : ℕ) → n ≤ 64 → leaf-of (take n (bits-of (record { low = w; high = 0 })) ++ bits-of (record { low = 0; high = 0 })) ≡ leaf-of (take n (bits 64 w))
+pub first-of-word : (w n : ℕ) → n ≤ 64 → leaf-of (take n (bits-of (record { low = w; high = 0 })) ++ bits-of (record { low = 0; high = 0 }))
+    ≡ leaf-of (take n (bits 64 w))
 unfolding bits-of
 first-of-word w n h =
     ap₂ (λ (xs ys : List Bool). leaf-of (xs ++ ys)) (take-append-le n (bits 64 w) (bits 64 0) (omega (arith, bits-length 64 w)))

@@ -6,5 +6,5 @@ pub mod OneRound
 pub mod Pairing
 pub mod Pinned
 pub mod PutLeaves
-pub mod Turns
-pub mod Whole
+pub mod Rounds
+pub mod WholeBuild

@@ -32,7 +32,8 @@ module _ (w w′ : List ℕ) where
   tree-same : (t : Tree) → Holds w t → Holds w′ t → (k : ℕ) → List·Memᴰ k (numbers t) → Same w w′ k
   unfolding numbers
   tree-same (leaf n xs) p q k m =
-      ⊎-elim (λ e. told (Leaf (leaf-of xs)) e (λ b. let z : _≡_ {A = ℕ} 0 1 = cc in omega arith) p q) (λ none. absurd (List·Memᴰ·not-nil none)) (List·Memᴰ·cases-cons m)
+      ⊎-elim (λ e. told (Leaf (leaf-of xs)) e (λ b. let z : _≡_ {A = ℕ} 0 1 = cc in omega arith) p q) (λ none. absurd (List·Memᴰ·not-nil none))
+      (List·Memᴰ·cases-cons m)
   tree-same (fork n l r) p q k m =
       ⊎-elim
       (λ e. told (Fork (fork-of l r)) e (λ b. let z : _≡_ {A = ℕ} 0 1 = cc in omega arith) (p .0) (q .0))
@@ -54,7 +55,8 @@ laid-one {w} {w′} {n} {p} a b each =
     let same : (k : ℕ) → k < n → Same w w′ k =
     λ k h.
     ⊎-elim (tree-same w w′ (p .tree) (a .tree) (b .tree) k) (chain-same w w′ n (p .free) (a .chain) (b .chain) k)
-    (List·Memᴰ·append-cases (numbers (p .tree)) (rearranged-member k (numbers-from 0 n) (all-numbers p) each (numbers-from-member k 0 n (omega arith) (omega arith)))) in
+    (List·Memᴰ·append-cases (numbers (p .tree)) (rearranged-member k (numbers-from 0 n) (all-numbers p) each
+    (numbers-from-member k 0 n (omega arith) (omega arith)))) in
     same-nodes n w w′ (omega (arith, a .words)) (omega (arith, b .words)) (λ k h. same k h .0) (λ k h. same k h .1)
 
 -- where there is room a pool is built

@@ -29,7 +29,8 @@ strikes-most : (t : Tree) → count true (marks t) ≤ size t
 strikes-most t = omega (arith, size-marks t, count-both (marks t))
 
 -- two waiting trees are small enough to be joined
-pub both-small : {w : List ℕ} {n : ℕ} (l r : Tree) {a b : Item} → Summed w n l a → Summed w n r b → height l ≤ height r + 2 → height l ≤ 2000 → height r ≤ 2000
+pub both-small : {w : List ℕ} {n : ℕ} (l r : Tree) {a b : Item} → Summed w n l a → Summed w n r b → height l ≤ height r + 2 → height l ≤ 2000
+    → height r ≤ 2000
     → size l + size r ≤ 2 ^ 16 → Small a b
 both-small l r p q even hl hr few =
     let sl = strikes-most l in
@@ -48,7 +49,8 @@ pub record Joined (w w′ : List ℕ) (n : ℕ) (l r : Tree) (x : Item) : Type 0
   pub kept : Kept w w′ n
   pub made : Summed w′ (suc n) (fork n l r) x
 
-pub join : {w w′ : List ℕ} {n : ℕ} (l r : Tree) {a b x : Item} → Summed w n l a → Summed w n r b → n < nodes-in w → Forked w w′ n a b x → Joined w w′ n l r x
+pub join : {w w′ : List ℕ} {n : ℕ} (l r : Tree) {a b x : Item} → Summed w n l a → Summed w n r b → n < nodes-in w → Forked w w′ n a b x
+    → Joined w w′ n l r x
 join {w} {w′} {n} l r {a} {b} p q h f =
     let put : Put w w′ n (Node.Fork (fork-over a b)) = rw (f .stored) (put-fork w n (fork-over a b) h) in
     record { size = put .size; kept = put-kept put; made = rw (f .item) (fork-summed n l r a b put p q) }
@@ -69,7 +71,8 @@ module _ (w w′ : List ℕ) (n m : ℕ) (kept : Kept w w′ n) (h : n ≤ m) (x
   )
 
 -- read the other way round they are a row
-made-row : (w : List ℕ) (n : ℕ) (xs : List Item) (done ts : List Tree) → Made w n xs done → Row w n xs (length done) ts → Row w n xs 0 (reverseAux done ts)
+made-row : (w : List ℕ) (n : ℕ) (xs : List Item) (done ts : List Tree) → Made w n xs done → Row w n xs (length done) ts
+    → Row w n xs 0 (reverseAux done ts)
 made-row w n xs [] ts p r = r
 made-row w n xs (t ∷ done) ts p r = made-row w n xs done (t ∷ ts) (p .1) (p .0, r)
 
@@ -115,7 +118,8 @@ no-pair {next = next} {ts = ts} p = (
 -- the last tree made, and all before it, wait for the next round
 ended : {before w : List ℕ} {next m : ℕ} {items : List Item} {ts : List Tree} (made : List Item) (done : List Tree) (last : Tree)
     → Waiting before next items ts → 2 ≤ length ts → length made ≡ places
-    → reverseAux done (last ∷ []) ≡ round next ts → Made w m made done → Summed w m last (getD made (length done) nothing) → Waiting w m made (round next ts)
+    → reverseAux done (last ∷ []) ≡ round next ts → Made w m made done → Summed w m last (getD made (length done) nothing)
+    → Waiting w m made (round next ts)
 ended {w = w} {next = next} {m = m} {ts = ts} made done last b some room e new s =
     let half = round-halves next ts some in
     record {
@@ -197,8 +201,11 @@ module _ {w : List ℕ} {next : ℕ} {items made : List Item} {i : ℕ} {ts : Li
           whole = rw next-is (p .whole);
           many = ap suc many;
           left = omega (arith, p .left);
-          new = rw (next-is, many)
-              (rw (getD-set-same made i x nothing room) (j .made), made-kept w w′ n (suc n) (j .kept) (omega arith) made i x done (omega arith) (p .new));
+          new = rw (next-is, many) (
+            rw (getD-set-same made i x nothing room) (j .made),
+            made-kept w w′ n (suc n) (j .kept) (omega arith) made i x done (omega arith)
+                (p .new),
+          );
           row = rw (next-is, at) (row-kept w w′ n (suc n) (j .kept) (omega arith) items (suc (suc (i * 2))) (s ∷ t ∷ more) (p .row .1 .1));
           high = p .high;
           level = p .level .1 .1;
@@ -208,7 +215,8 @@ module _ {w : List ℕ} {next : ℕ} {items made : List Item} {i : ℕ} {ts : Li
       )
 
   -- two trees left: the last pair is the last fork
-  pub even-ends : {before w′ : List ℕ} {x : Item} (done rest : List Tree) → Waiting before next items ts → Part w next items made i ts done rest → i * 2 + 2 ≡ length ts
+  pub even-ends : {before w′ : List ℕ} {x : Item} (done rest : List Tree) → Waiting before next items ts → Part w next items made i ts done rest
+      → i * 2 + 2 ≡ length ts
       → i < length made → length made ≡ places → next + i < nodes-in w → Forked w w′ (next + i) (left items i) (right items i) x
       → Waiting w′ (suc (next + i)) (set made i x) (round next ts)
   unfolding round
@@ -224,7 +232,8 @@ module _ {w : List ℕ} {next : ℕ} {items made : List Item} {i : ℕ} {ts : Li
   even-ends done (r ∷ l ∷ s ∷ more) b p two room all fits f = absurd (omega arith)
 
   -- three left: the odd tree joins the last pair
-  pub odd-ends : {before w′ w″ : List ℕ} {x y : Item} (done rest : List Tree) → Waiting before next items ts → Part w next items made i ts done rest → i * 2 + 3 ≡ length ts
+  pub odd-ends : {before w′ w″ : List ℕ} {x y : Item} (done rest : List Tree) → Waiting before next items ts → Part w next items made i ts done rest
+      → i * 2 + 3 ≡ length ts
       → i < length made → length made ≡ places → suc (next + i) < nodes-in w → Forked w w′ (next + i) (left items i) (right items i) x
       → Forked w′ w″ (suc (next + i)) (odd items i) x y → Waiting w″ (suc (suc (next + i))) (set made i y) (round next ts)
   unfolding round
@@ -238,6 +247,7 @@ module _ {w : List ℕ} {next : ℕ} {items made : List Item} {i : ℕ} {ts : Li
       let k = join o (fork n l r) waits (j .made) (omega (arith, j .size)) (rw (add-two (i * 2)) at g) in
       let many = p .many in
       ended (set made i y) done (fork (suc n) o (fork n l r)) b (omega arith) (simp length-set all) (p .whole)
-      (made-kept w w″ n (suc (suc n)) (kept-kept w w′ w″ n (suc n) (omega arith) (j .kept) (k .kept)) (omega arith) made i y done (omega arith) (p .new))
+      (made-kept w w″ n (suc (suc n)) (kept-kept w w′ w″ n (suc n) (omega arith) (j .kept) (k .kept)) (omega arith) made i y done (omega arith)
+      (p .new))
       (rw (many, getD-set-same made i y nothing room) (k .made))
   odd-ends done (r ∷ l ∷ o ∷ t ∷ more) b p three room all fits f g = absurd (omega arith)

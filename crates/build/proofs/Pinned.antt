@@ -8,6 +8,7 @@ use mathlib.Core.List.{List}
 use denote.Ref.{now}
 use lib.ListN.{length, take}
 use lib.Seq.{length-take-le}
+use Rattle.model.specs.Contract.{Pinned}
 use Rattle.model.specs.Build.{leaf-count}
 use Rattle.model.specs.Pool.{nodes-for}
 use Rattle.model.specs.Word.{marks-of}
@@ -18,10 +19,11 @@ use Rattle.build.proofs.OnePool.{builds, laid-one}
 use Rattle.build.proofs.building.build.Reads as build
 use Rattle.build.proofs.building.leaf_count.Reads as leaf-count-of
 
-pub leaf-count-pinned : (κs : _) (a : _) (r r′ : _) (w w′ : _) → leaf-count-of.Post κs a r w → leaf-count-of.Post κs a r′ w′ → r ≡ r′
+pub leaf-count-pinned : Pinned leaf-count-of.Post
 leaf-count-pinned κs a r r′ w w′ p q = p ∙ sym q
 
-pub build-pinned : (κs : _) (a : _) (r r′ : _) (w w′ : _) → build.Pre κs a → build.Post κs a r w → build.Post κs a r′ w′ → (r ≡ r′) × (now (w .0) ≡ now (w′ .0))
+pub build-pinned : (κs : _) (a : _) (r r′ : _) (w w′ : _) → build.Pre κs a → build.Post κs a r w → build.Post κs a r′ w′
+    → (r ≡ r′) × (now (w .0) ≡ now (w′ .0))
 unfolding nodes-for
 build-pinned κs a r r′ w w′ room p q =
     let n : ℕ = nodes-in (now (a .0)) in

@@ -44,7 +44,8 @@ one-begun {w} {xs} {leaves} {items} {i} w′ at x b place h room fits e f =
     let next : drop 64 (drop (i * 64) xs) ≡ drop (suc i * 64) xs = drop-drop 64 (i * 64) xs ∙ ap (λ (n : ℕ). drop n xs) past in
     let stored : Put w w′ i (Node.Leaf (leaf-of (here xs i))) = rw f (put-leaf w i (leaf-of (here xs i)) fits) in
     let older : Row w i items (suc (leaves - suc i)) (b .seen) = rw k at (b .row) in
-    let all : reverseAux (built-leaves i (suc (leaves - suc i)) (drop (i * 64) xs)) (b .seen) ≡ reverse (built-leaves 0 leaves xs) = rw k at (b .all) in
+    let all : reverseAux (built-leaves i (suc (leaves - suc i)) (drop (i * 64) xs)) (b .seen) ≡ reverse (built-leaves 0 leaves xs) =
+    rw k at (b .all) in
     record {
       seen = leaf i (here xs i) ∷ b .seen;
       all = rw (← next) all;

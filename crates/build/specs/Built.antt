@@ -19,7 +19,7 @@ pub record Room (w words : List ℕ) (total : ℕ) : Type 0 where
   pub enough : 2 * leaf-count total - 1 ≤ nodes-in w
 
 -- the pool that the model builds stands in the words after, and the root and the chain are its own
-pub record Stands (w′ : List ℕ) (n : ℕ) (r : Built) (p : Pool) : Type 0 where
+pub record BuiltAs (w′ : List ℕ) (n : ℕ) (r : Built) (p : Pool) : Type 0 where
   pub laid : Laid w′ n p
   pub root : r .root ≡ top (p .tree)
   pub first : r .chain .first ≡ first-of n (p .free)

@@ -39,10 +39,24 @@ leaf-item n xs = record { node = n; total = length xs; ones = count true xs; hei
 
 -- the fork over two remembered trees, and what is remembered of it at n
 abbrev pub fork-over : Item → Item → Fork
-fork-over l r = record { left = l .node; right = r .node; «left_total» = l .total; «left_ones» = l .ones; balance = (r .height + 2) - l .height }
+fork-over l r = record {
+  left =
+      l .node;
+  right = r .node;
+  «left_total» = l .total;
+  «left_ones» = l .ones;
+  balance = (r .height + 2) - l .height;
+}
 
 abbrev pub item-over : ℕ → Item → Item → Item
-item-over n l r = record { node = n; total = l .total + r .total; ones = l .ones + r .ones; height = suc (max (l .height) (r .height)) }
+item-over n l r =
+    record {
+      node = n;
+      total = l .total + r .total;
+      ones = l .ones + r .ones;
+      height = suc
+          (max (l .height) (r .height));
+    }
 
 -- the words with that fork put at n, and what is then remembered
 pub record Forked (w w′ : List ℕ) (n : ℕ) (l r x : Item) : Type 0 where
@@ -94,7 +108,7 @@ pub record Waiting (w : List ℕ) (n : ℕ) (xs : List Item) (ts : List Tree) : 
   pub few : all-size ts ≤ 2 ^ 16
 
 -- a tree that stands in these words with its top at r, its numbers below n
-pub record Standing (w : List ℕ) (n : ℕ) (t : Tree) (r : ℕ) : Type 0 where
+pub record Finished (w : List ℕ) (n : ℕ) (t : Tree) (r : ℕ) : Type 0 where
   pub at : r ≡ top t
   pub holds : Holds w t
   pub below : (k : ℕ) → List·Memᴰ k (numbers t) → k < n
@@ -129,12 +143,14 @@ pub record Ready (w : List ℕ) (items : List Item) (trees next : ℕ) : Type 0 
 -- after a round: whichever trees waited, the model's round on them waits
 pub record Rounded (w w′ : List ℕ) (items made : List Item) (trees next : ℕ) : Type 0 where
   pub kept : length w′ ≡ length w
-  pub done : (ts : List Tree) → length ts ≡ trees → Waiting w next items ts → Waiting w′ (next + (trees - trees / 2)) made (round next ts)
+  pub done : (ts : List Tree) → length ts ≡ trees → Waiting w next items ts
+      → Waiting w′ (next + (trees - trees / 2)) made (round next ts)
 
 -- after all rounds: whichever trees waited, the tree that the model makes of them stands
 pub record Grown (w w′ : List ℕ) (items : List Item) (leaves r : ℕ) : Type 0 where
   pub kept : length w′ ≡ length w
-  pub done : (ts : List Tree) → length ts ≡ leaves → Waiting w leaves items ts → Standing w′ (2 * leaves - 1) (rounds leaves leaves ts) r
+  pub done : (ts : List Tree) → length ts ≡ leaves → Waiting w leaves items ts
+      → Finished w′ (2 * leaves - 1) (rounds leaves leaves ts) r
 
 -- after the chain is made: it goes over the numbers from `first` on, and the nodes below are as they were
 pub record Freeing (w w′ : List ℕ) (first : ℕ) (r : Chain) : Type 0 where

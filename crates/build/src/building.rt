@@ -17,7 +17,7 @@ ghost use Rattle.model.specs.Pool as Pool;
 ghost use Rattle.model.specs.Word.{bits as bits-in, marks-of};
 ghost use Rattle.bits.specs.Leaf.{leaf-of};
 ghost use Rattle.pool.specs.Node.{leaf-cell, nodes-in, put};
-ghost use Rattle.build.specs.Built.{Room, Stands};
+ghost use Rattle.build.specs.Built.{Room, BuiltAs};
 ghost use Rattle.build.specs.Waiting.{Forked, Freeing, Grown, Leafy, Planted, Ready, Rounded, Small, leaf-item, leaf-marks, nothing as no-item};
 
 // How many marks a built leaf takes, the last one perhaps fewer.
@@ -98,7 +98,9 @@ fn leaf_of_words(words: &[u64], length: u64, i: u64) -> Leaf
 // Puts the leaf i at its number.
 fn put_leaf(nodes: &mut [u64], words: &[u64], length: u64, i: u64) -> Item
     requires { ⌜ (i * 64 ≤ length) × (length ≤ 64 * count-of (now words)) ⌝ }
-    ensures { λ r. ⌜ (r ≡ leaf-item i (leaf-marks (now (words .entry)) length i)) × (now (nodes .exit) ≡ put (now (nodes .entry)) i (leaf-cell (leaf-of (leaf-marks (now (words .entry)) length i)))) ⌝ }
+    ensures { λ r. ⌜ (r ≡ leaf-item i (leaf-marks (now (words .entry)) length i))
+        × (now (nodes .exit) ≡ put (now (nodes .entry)) i
+        (leaf-cell (leaf-of (leaf-marks (now (words .entry)) length i)))) ⌝ }
 {
     let total = leaf_total(length, i);
     let leaf = leaf_of_words(words, length, i);
@@ -114,7 +116,8 @@ fn put_leaf(nodes: &mut [u64], words: &[u64], length: u64, i: u64) -> Item
 // Puts every leaf, and hands them back with the rightmost first.
 fn put_leaves(nodes: &mut [u64], words: &[u64], length: u64, leaves: u64) -> [Item; 512]
     requires { ⌜ Leafy (now nodes) (now words) length leaves ⌝ }
-    ensures { λ r. ⌜ Planted (now (nodes .entry)) (now (nodes .exit)) (take length (marks-of (now (words .entry)))) leaves r ⌝ }
+    ensures { λ r. ⌜ Planted (now (nodes .entry)) (now (nodes .exit))
+        (take length (marks-of (now (words .entry)))) leaves r ⌝ }
 {
     let mut items = [nothing(); PLACES];
     let mut i = 0;
@@ -231,7 +234,9 @@ fn chain_from(nodes: &mut [u64], first: u64) -> Chain
 // Builds the tree of the first `length` bits of the words.
 pub fn build(nodes: &mut [u64], words: &[u64], length: u64) -> Built
     requires { ⌜ Room (now nodes) (now words) length ⌝ }
-    ensures { λ r. ⌜ ((p : Pool.Pool) → Pool.build (nodes-in (now (nodes .entry))) (take length (marks-of (now (words .entry)))) ≡ some p → Stands (now (nodes .exit)) (nodes-in (now (nodes .entry))) r p) ⌝ }
+    ensures { λ r. ⌜ ((p : Pool.Pool)
+        → Pool.build (nodes-in (now (nodes .entry))) (take length (marks-of (now (words .entry)))) ≡ some p
+        → BuiltAs (now (nodes .exit)) (nodes-in (now (nodes .entry))) r p) ⌝ }
 {
     let leaves = leaf_count(length);
     let items = put_leaves(nodes, words, length, leaves);

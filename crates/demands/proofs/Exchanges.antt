@@ -14,12 +14,14 @@ use Rattle.model.specs.Tree.{marks, size}
 use Rattle.model.proofs.Cases.{by-leb, by-test}
 use Rattle.model.proofs.Content.{size-marks}
 use Rattle.model.proofs.Floor.{floor-window}
-use Rattle.serve.specs.Answer.{code, value}
+use Rattle.order.specs.Answer.{code, value}
 use Rattle.window.specs.Layout.{Counted, Stands, trailer-of}
 use Rattle.serve.specs.Orders as Serve
-use Rattle.serve.specs.Orders.{Asked, asks, with-bit, with-zero, inserting, removing, unknown, list-after, list-answer, bit-value}
-use Rattle.window.specs.Orders.{answer, after, answers, after-all, answer-words, orders-of, no-room}
-use Rattle.serve.specs.declared.answer.Answer.the-variants.{Done, Full}
+use Rattle.model.specs.Word.{digit}
+use Rattle.order.specs.Asked.{Asked, asks, with-bit, with-zero, inserting, removing, unknown}
+use Rattle.order.specs.Plain.{list-after, list-answer}
+use Rattle.run.specs.Orders.{answer, after, answers, after-all, answer-words, orders-of, no-room}
+use Rattle.order.specs.declared.answer.Answer.the-variants.{Done, Full}
 use Rattle.window.proofs.OneState.{counted-one, one-state}
 use Rattle.window.proofs.Pinned.{Likely, cases, one-layout, words-stable}
 use Rattle.demands.specs.Following.{full, AllRefused, ListAnswers, TellsFull}
@@ -78,7 +80,7 @@ full-told o p e = by-answer o p (λ f. f) (λ f g. absurd (list-codes o (marks (
 
 -- an order that is an insert has the words of one
 inserts : (e : Entry) (i : ℕ) (b : Bool) → asked e ≡ inserting i b → Inserts e × (i ≡ e .second)
-unfolding inserting-count
+unfolding inserting-count digit
 inserts e i b q =
     by-kind (e .number) (e .second) (e .third)
     (λ c one bit a. let same : inserting (e .second) c ≡ inserting i b = sym a ∙ q in (record { number = one; bit = small c bit }, cc))
@@ -86,7 +88,7 @@ inserts e i b q =
     (λ k. not-inserting (asked e) i b (k .no-insert) q)
     (λ a. not-inserting (asked e) i b (ap inserting-count a) q)
   where
-    small : (c : Bool) → e .third ≡ bit-value c → e .third ≤ 1
+    small : (c : Bool) → e .third ≡ digit c → e .third ≤ 1
     small true h = omega arith
     small false h = omega arith
 
@@ -168,14 +170,14 @@ module _ {ws : List ℕ} {e : Exchange} (r : InRun ws e) where
       after-pool : after (asked (e .entry)) p ≡ q
       after-pool = one-state (e .after) nodes m (after (asked (e .entry)) p) q after-is t
 
-      pub inserted : (b : Bool) → e .entry .number ≡ 1 → e .entry .third ≡ bit-value b
+      pub inserted : (b : Bool) → e .entry .number ≡ 1 → e .entry .third ≡ digit b
           → marks (q .tree) ≡ Marks.insert (e .entry .second) b (marks (p .tree))
-      unfolding asks with-bit
+      unfolding asks with-bit digit
       inserted b one bit =
           let a : asked (e .entry) ≡ inserting (e .entry .second) b = rw (one, bit) (with-the-bit b) in
           rw (← after-pool, a) (insert-done (e .entry .second) b p (rw a at (sym code-is ∙ c)) .1)
         where
-          with-the-bit : (b : Bool) → asks 1 (e .entry .second) (bit-value b) ≡ inserting (e .entry .second) b
+          with-the-bit : (b : Bool) → asks 1 (e .entry .second) (digit b) ≡ inserting (e .entry .second) b
           with-the-bit true = refl
           with-the-bit false = refl
 

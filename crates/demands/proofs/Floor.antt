@@ -19,9 +19,9 @@ use Rattle.model.proofs.Content.{size-marks}
 use Rattle.model.proofs.Floor.{floor, means-full}
 use Rattle.model.proofs.Sharp.{floor-reached}
 use Rattle.serve.specs.Orders as Serve
-use Rattle.serve.specs.Orders.{Asked, inserting, removing}
-use Rattle.window.specs.Orders.{after, after-all, answer}
-use Rattle.serve.specs.declared.answer.Answer.the-variants.{Full}
+use Rattle.order.specs.Asked.{Asked, inserting, removing}
+use Rattle.run.specs.Orders.{after, after-all, answer}
+use Rattle.order.specs.declared.answer.Answer.the-variants.{Full}
 use Rattle.demands.proofs.Refusals.{Roomless, full-if, full-only-if}
 
 -- any order that a sound pool answers Full

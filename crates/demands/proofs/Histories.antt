@@ -17,11 +17,12 @@ use Rattle.model.proofs.Cases.{by-ltb}
 use Rattle.model.proofs.Content.{size-marks}
 use Rattle.model.proofs.PoolSound.{build-tree}
 use Rattle.build.proofs.LeafMarks.{marks-of-length}
-use Rattle.serve.specs.Answer.{code, value}
-use Rattle.window.specs.Calls.{Checked, Valued, order-count}
+use Rattle.order.specs.Answer.{code, value}
+use Rattle.run.specs.Runs.{order-count}
+use Rattle.window.specs.Calls.{Checked, Valued}
 use Rattle.window.specs.Layout.{Counted, Stands}
-use Rattle.window.specs.Orders.{answer-words, list-after-all, list-answers, orders-of}
-use Rattle.serve.specs.declared.answer.Answer.the-variants.{Done}
+use Rattle.run.specs.Orders.{answer-words, list-after-all, list-answers, orders-of}
+use Rattle.order.specs.declared.answer.Answer.the-variants.{Done}
 use Rattle.window.proofs.Pinned.{Likely, cases, words-stable}
 use Rattle.demands.specs.Following.{AgreeOrFull, AllRefused, Follows, NoneFull, carried-out, done}
 use Rattle.demands.specs.History.{Accepted, History, all-orders, log}
@@ -63,7 +64,8 @@ module _ {slice words : List ℕ} {len : ℕ} {begun orders ws told : List ℕ} 
   follows-list = rw (← holds-end, m .tells, ← built-marks b) (TheList.follows orders (b .pool) (m .whole))
 
   pub with-room : NoneFull (log orders told)
-      → (told ≡ answer-words (list-answers (orders-of orders) (given words len))) × HoldsMarks ws (list-after-all (orders-of orders) (given words len))
+      → (told ≡ answer-words (list-answers (orders-of orders) (given words len)))
+      × HoldsMarks ws (list-after-all (orders-of orders) (given words len))
   with-room f =
       let r = TheList.told-with-room orders (b .pool) (m .whole) (rw (m .tells) at f) in
       (rw (← built-marks b) (m .tells ∙ r .0), (b .nodes, becomes orders (b .pool), m .stands, rw (← built-marks b) (r .1)))

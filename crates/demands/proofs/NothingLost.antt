@@ -13,11 +13,13 @@ use Rattle.model.specs.Pool.{Pool}
 use Rattle.model.specs.Tree.{marks}
 use Rattle.model.proofs.Cases.{by-leb, by-ltb, by-test}
 use Rattle.model.proofs.MarksEdits.{length-insert, length-remove}
-use Rattle.serve.specs.Answer.{code, value}
+use Rattle.order.specs.Answer.{code, value}
 use Rattle.serve.specs.Orders as Serve
-use Rattle.serve.specs.Orders.{asks, with-bit, with-zero, inserting, removing, accessing, ranking, selecting, quiet, unknown, in-range, list-answer, list-after, bit-value}
-use Rattle.window.specs.Orders.{no-room, answer, after, answers, after-all, answer-words, orders-of}
-use Rattle.serve.specs.declared.answer.Answer.the-variants.{Done}
+use Rattle.model.specs.Word.{digit}
+use Rattle.order.specs.Asked.{asks, with-bit, with-zero, inserting, removing, accessing, ranking, selecting, quiet, unknown}
+use Rattle.order.specs.Plain.{in-range, list-answer, list-after}
+use Rattle.run.specs.Orders.{no-room, answer, after, answers, after-all, answer-words, orders-of}
+use Rattle.order.specs.declared.answer.Answer.the-variants.{Done}
 use Rattle.demands.specs.Following.{counts, done}
 use Rattle.demands.specs.History.{Entry, log}
 use Rattle.demands.proofs.OrderByOrder.{after-marks, by-kind}
@@ -38,11 +40,17 @@ insert-done i b p e =
     (λ u h. absurd (omega (arith, rw u at (rw (Serve.answer, t) at e)))))
 
 pub remove-done : (i : ℕ) (p : Pool) → code (answer (removing i) p) ≡ 0
-    → (i < length (marks (p .tree))) × (answer (removing i) p ≡ Done (bit-value (Marks.access i (marks (p .tree))))) × (marks (after (removing i) p .tree) ≡ Marks.remove i (marks (p .tree)))
+    → (i < length (marks (p .tree))) × (answer (removing i) p ≡ Done (digit (Marks.access i (marks (p .tree)))))
+    × (marks (after (removing i) p .tree) ≡ Marks.remove i (marks (p .tree)))
 unfolding Serve.answer Serve.no-room list-answer list-after code
 remove-done i p e =
     by-ltb i (length (marks (p .tree)))
-    (λ u h. (h, ap (λ (c : Bool). in-range c (Done (bit-value (Marks.access i (marks (p .tree)))))) u, after-marks (removing i) p refl ∙ rw (list-after, u)))
+    (λ u h. (
+      h,
+      ap (λ (c : Bool). in-range c (Done (digit (Marks.access i (marks (p .tree)))))) u,
+      after-marks (removing i) p refl
+          ∙ rw (list-after, u),
+    ))
     (λ u h. absurd (omega (arith, rw u at e)))
 
 -- ---- what is counted

@@ -18,10 +18,13 @@ use Rattle.model.proofs.Content.{size-marks}
 use Rattle.model.proofs.PoolSound.{insert-pool-marks, remove-pool-marks}
 pub use Rattle.serve.proofs.Orderly.{never}
 use Rattle.serve.specs.Orders as Serve
-use Rattle.serve.specs.Orders.{Asked, asks, with-bit, with-zero, bit-value, inserting, removing, accessing, ranking, selecting, quiet, unknown, in-range, placed, list-answer, list-after, or-else}
-use Rattle.window.specs.Orders.{no-room, after, after-all}
-use Rattle.serve.specs.Answer.{code}
-use Rattle.serve.specs.declared.answer.Answer.the-variants.{Done}
+use Rattle.model.specs.Word.{digit}
+use Rattle.order.specs.Asked.{Asked, asks, with-bit, with-zero, inserting, removing, accessing, ranking, selecting, quiet, unknown}
+use Rattle.order.specs.Plain.{in-range, placed, list-answer, list-after}
+use Rattle.serve.specs.Orders.{or-else}
+use Rattle.run.specs.Orders.{no-room, after, after-all}
+use Rattle.order.specs.Answer.{code}
+use Rattle.order.specs.declared.answer.Answer.the-variants.{Done}
 
 -- 1 for an insert, and 0 for any other order
 unfoldable pub inserting-count : Asked → ℕ
@@ -44,15 +47,15 @@ pub record Asks (n : ℕ) (o : Asked) : Type 0 where
   pub no-insert : inserting-count o ≡ 0
 
 -- what three words ask: an insert, a remove, a question, or nothing that is known
-pub by-kind : {P : Type 0} (n x y : ℕ) → ((b : Bool) → n ≡ 1 → y ≡ bit-value b → asks n x y ≡ inserting x b → P)
+pub by-kind : {P : Type 0} (n x y : ℕ) → ((b : Bool) → n ≡ 1 → y ≡ digit b → asks n x y ≡ inserting x b → P)
     → (n ≡ 2 → asks n x y ≡ removing x → P) → (Asks n (asks n x y) → P) → (asks n x y ≡ unknown → P) → P
-unfolding asks with-bit with-zero Serve.after inserting-count
+unfolding asks with-bit with-zero Serve.after inserting-count digit
 by-kind {P = P} n x y ins rem ask unk = kinds n x y ins rem ask unk
   where
     question : {n : ℕ} {o : Asked} → 3 ≤ n → ((p : Pool) → after o p ≡ p) → inserting-count o ≡ 0 → Asks n o
     question late e z = record { number = late; leaves = e; no-insert = z }
 
-    kinds : (n x y : ℕ) → ((b : Bool) → n ≡ 1 → y ≡ bit-value b → asks n x y ≡ inserting x b → P)
+    kinds : (n x y : ℕ) → ((b : Bool) → n ≡ 1 → y ≡ digit b → asks n x y ≡ inserting x b → P)
         → (n ≡ 2 → asks n x y ≡ removing x → P) → (Asks n (asks n x y) → P) → (asks n x y ≡ unknown → P) → P
     kinds zero x y ins rem ask unk = unk refl
     kinds (suc zero) x zero ins rem ask unk = ins false refl refl refl
@@ -136,7 +139,8 @@ after-marks (inserting i b) p e =
     (λ t h. rw (Serve.after, list-after, t))
 after-marks (removing i) p e =
     let s = size-marks (p .tree) in
-    by-ltb i (length (marks (p .tree))) (λ t h. rw (Serve.after, list-after, t) (remove-pool-marks i p (omega arith))) (λ t h. rw (Serve.after, list-after, t))
+    by-ltb i (length (marks (p .tree))) (λ t h. rw (Serve.after, list-after, t) (remove-pool-marks i p (omega arith)))
+    (λ t h. rw (Serve.after, list-after, t))
 after-marks (accessing i) p e = refl
 after-marks (ranking i b) p e = refl
 after-marks (selecting i b) p e = refl

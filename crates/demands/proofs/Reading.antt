@@ -13,13 +13,14 @@ use Rattle.model.specs.Pool.{Pool}
 use Rattle.model.specs.Tree.{size}
 use Rattle.model.specs.Word.{marks-of}
 use Rattle.model.proofs.Cases.{by-ltb}
-use Rattle.serve.specs.Answer.{code, value}
-use Rattle.window.specs.Calls.{NoPool, BuildsTo, Ran, order-count}
+use Rattle.order.specs.Answer.{code, value}
+use Rattle.run.specs.Runs.{Ran, order-count}
+use Rattle.window.specs.Calls.{NoPool, BuildsTo}
 use Rattle.window.specs.Layout.{Counted, Stands, WellFormed, trailer-of}
-use Rattle.serve.specs.Orders.{Asked, asks}
-use Rattle.window.specs.Orders.{orders-of, answer, after, answers, after-all, answer-words}
-use Rattle.serve.specs.declared.answer.Answer.{Answer}
-use Rattle.serve.specs.declared.answer.Answer.the-variants.{Done}
+use Rattle.order.specs.Asked.{Asked, asks}
+use Rattle.run.specs.Orders.{orders-of, answer, after, answers, after-all, answer-words}
+use Rattle.order.specs.declared.answer.Answer.{Answer}
+use Rattle.order.specs.declared.answer.Answer.the-variants.{Done}
 use Rattle.window.proofs.Pinned.{Likely, cases}
 use Rattle.demands.specs.History.{Accepted, Entry, Exchange, History, InRun, Runs, all-orders, asked, log, order-words, trailer}
 
@@ -94,7 +95,8 @@ pub done-no : {A : Type 0} {r : Answer} (v : ℕ) (c : ℕ) → Done v ≡ r →
 unfolding code
 done-no v c e h = absurd (omega (arith, ap code e))
 
-pub accepted-means : {ws : List ℕ} {n : ℕ} {p : Pool} {orders ws′ told : List ℕ} → Stands ws n p → Accepted ws orders ws′ told → Means n p orders ws′ told
+pub accepted-means : {ws : List ℕ} {n : ℕ} {p : Pool} {orders ws′ told : List ℕ} → Stands ws n p → Accepted ws orders ws′ told
+    → Means n p orders ws′ told
 unfolding code
 accepted-means {ws = ws} {n = n} {p = p} {orders = orders} {ws′ = ws′} {told = told} s a =
     by-ltb 0 (length orders % 3)
@@ -197,7 +199,8 @@ exchange-met {e = e} {n = n} {p = p} s r =
       before = m .stands;
       after = rw (becomes-append (r .front) (order-words (e .entry)) p (m .whole)) at (through .stands);
       code = r .code ∙ rw (told, ← size) (at (tells (r .front) p) (tells (order-words (e .entry) ++ r .back) (becomes (r .front) p)));
-      value = r .value ∙ rw (told, ← size) (getD-append-add (tells (r .front) p) (tells (order-words (e .entry) ++ r .back) (becomes (r .front) p)) 1 0);
+      value = r .value ∙ rw (told, ← size) (getD-append-add (tells (r .front) p)
+          (tells (order-words (e .entry) ++ r .back) (becomes (r .front) p)) 1 0);
     }
   where
     at : (xs ys : List ℕ) → getD (xs ++ ys) (length xs) 0 ≡ getD ys 0 0

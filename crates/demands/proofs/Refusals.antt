@@ -17,12 +17,13 @@ use Rattle.model.specs.Tree.{marks}
 use Rattle.model.proofs.Cases.{by-leb, by-ltb, by-test}
 use Rattle.model.proofs.Counting.{select-none}
 use Rattle.model.proofs.Floor.{full-means, means-full, whole-sized}
-use Rattle.serve.specs.Answer.{code}
+use Rattle.order.specs.Answer.{code}
 use Rattle.serve.specs.Orders as Serve
-use Rattle.serve.specs.Orders.{Asked, inserting, removing, accessing, ranking, selecting, quiet, unknown, in-range, placed, list-answer}
-use Rattle.window.specs.Orders.{no-room, answer, after}
-use Rattle.serve.specs.declared.answer.Answer.{Answer}
-use Rattle.serve.specs.declared.answer.Answer.the-variants.{Done, OutOfRange, NoZeroth, TooFew, Full, Malformed}
+use Rattle.order.specs.Asked.{Asked, inserting, removing, accessing, ranking, selecting, quiet, unknown}
+use Rattle.order.specs.Plain.{in-range, placed, list-answer}
+use Rattle.run.specs.Orders.{no-room, answer, after}
+use Rattle.order.specs.declared.answer.Answer.{Answer}
+use Rattle.order.specs.declared.answer.Answer.the-variants.{Done, OutOfRange, NoZeroth, TooFew, Full, Malformed}
 use Rattle.demands.proofs.OrderByOrder.{list-codes, by-room}
 
 -- an insert at place i finds no room: the place is in range, its leaf holds 127 marks, and fewer than two nodes are free
@@ -63,7 +64,9 @@ first-2 b p = refl
 -- 1: a place out of range
 pub first-1-insert : (i : ℕ) (b : Bool) (p : Pool) → length (marks (p .tree)) < i → answer (inserting i b) p ≡ OutOfRange
 unfolding Serve.answer Serve.no-room list-answer
-first-1-insert i b p h = by-leb i (length (marks (p .tree))) (λ t k. absurd (omega arith)) (λ t k. rw (Serve.answer, Serve.no-room, t) (ap (λ (c : Bool). in-range c (Done 0)) t))
+first-1-insert i b p h =
+    by-leb i (length (marks (p .tree))) (λ t k. absurd (omega arith))
+    (λ t k. rw (Serve.answer, Serve.no-room, t) (ap (λ (c : Bool). in-range c (Done 0)) t))
 
 pub first-1-remove : (i : ℕ) (p : Pool) → length (marks (p .tree)) ≤ i → answer (removing i) p ≡ OutOfRange
 unfolding Serve.answer Serve.no-room list-answer

@@ -14,11 +14,12 @@ use Rattle.model.specs.Pool.{Pool}
 use Rattle.model.specs.Tree.{size}
 use Rattle.model.specs.Word.{marks-of, words-for}
 use Rattle.model.proofs.Cases.{by-ltb}
-use Rattle.serve.specs.Answer.{code}
-use Rattle.window.specs.Calls.{NoPool, Damaged, BuildsTo, Valued, Ran, Unchanged, order-count}
+use Rattle.order.specs.Answer.{code}
+use Rattle.run.specs.Runs.{Ran, Unchanged, order-count}
+use Rattle.window.specs.Calls.{NoPool, Damaged, BuildsTo, Valued}
 use Rattle.window.specs.Layout.{Counted, Stands}
-use Rattle.serve.specs.declared.answer.Answer.{Answer}
-use Rattle.serve.specs.declared.answer.Answer.the-variants.{Done}
+use Rattle.order.specs.declared.answer.Answer.{Answer}
+use Rattle.order.specs.declared.answer.Answer.the-variants.{Done}
 use Rattle.window.proofs.Pinned.{Likely, words-stable, sized, cases}
 
 -- an answer that is done has the code 0
@@ -49,9 +50,11 @@ listed : (orders out : List ℕ) {G : Type 0} → ((length orders % 3 ≡ 0 → 
 listed orders out part short fits =
     by-ltb 0 (length orders % 3)
     (λ _ h. part (λ e. omega arith))
-    (λ _ h. let whole : length orders % 3 ≡ 0 = omega arith in by-ltb (length out) (2 * order-count orders) (λ _ k. short whole k) (λ _ k. fits whole k))
+    (λ _ h. let whole : length orders % 3 ≡ 0 = omega arith in
+    by-ltb (length out) (2 * order-count orders) (λ _ k. short whole k) (λ _ k. fits whole k))
 
-pub run-refused : (ws orders out : List ℕ) (r : Answer) (ws′ out′ : List ℕ) → Ran ws orders out r ws′ out′ → (code r ≡ 0 → ⊥) → (ws′ ≡ ws) × (out′ ≡ out)
+pub run-refused : (ws orders out : List ℕ) (r : Answer) (ws′ out′ : List ℕ) → Ran ws orders out r ws′ out′ → (code r ≡ 0 → ⊥)
+    → (ws′ ≡ ws) × (out′ ≡ out)
 run-refused ws orders out r ws′ out′ ran refused =
     (words-stable ws′ ws (λ k. likely (λ u. k (u .pool))), words-stable out′ out (λ k. likely (λ u. k (u .output))))
   where

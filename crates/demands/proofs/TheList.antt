@@ -14,13 +14,14 @@ use Rattle.model.specs.Marks as Marks
 use Rattle.model.specs.Pool.{Pool}
 use Rattle.model.specs.Tree.{marks}
 use Rattle.model.proofs.Cases.{by-test}
-use Rattle.serve.specs.Answer.{code, value}
-use Rattle.window.specs.Calls.{order-count}
+use Rattle.order.specs.Answer.{code, value}
+use Rattle.run.specs.Runs.{order-count}
 use Rattle.serve.specs.Orders as Serve
-use Rattle.serve.specs.Orders.{Asked, asks, list-answer, list-after}
-use Rattle.window.specs.Orders.{orders-of, no-room, answer, after, answers, after-all, answer-words, list-after-all, list-answers}
-use Rattle.serve.specs.declared.answer.Answer.{Answer}
-use Rattle.serve.specs.declared.answer.Answer.the-variants.{Full}
+use Rattle.order.specs.Asked.{Asked, asks}
+use Rattle.order.specs.Plain.{list-answer, list-after}
+use Rattle.run.specs.Orders.{orders-of, no-room, answer, after, answers, after-all, answer-words, list-after-all, list-answers}
+use Rattle.order.specs.declared.answer.Answer.{Answer}
+use Rattle.order.specs.declared.answer.Answer.the-variants.{Full}
 use Rattle.demands.specs.Following.{Follows, NoneFull, carried-out}
 use Rattle.demands.specs.History.{log}
 use Rattle.demands.proofs.OrderByOrder.{after-full, after-marks}

@@ -15,12 +15,13 @@ use Rattle.model.specs.Tree.{marks}
 use Rattle.model.proofs.Cases.{by-leb, by-ltb, by-test}
 use Rattle.model.proofs.Content.{size-marks}
 use Rattle.model.proofs.TwoPools.{Wider, Steps, alike, both-full, one-full, build-wider, insert-wider, remove-wider}
-use Rattle.serve.specs.Answer.{code, value}
+use Rattle.order.specs.Answer.{code, value}
 use Rattle.serve.specs.Orders as Serve
-use Rattle.serve.specs.Orders.{Asked, inserting, removing, accessing, ranking, selecting, quiet, unknown, in-range, asks, list-answer}
-use Rattle.window.specs.Orders.{no-room, orders-of, answer, after, answers, answer-words}
-use Rattle.serve.specs.declared.answer.Answer.{Answer}
-use Rattle.serve.specs.declared.answer.Answer.the-variants.{Done, Full}
+use Rattle.order.specs.Asked.{Asked, inserting, removing, accessing, ranking, selecting, quiet, unknown, asks}
+use Rattle.order.specs.Plain.{in-range, list-answer}
+use Rattle.run.specs.Orders.{no-room, orders-of, answer, after, answers, answer-words}
+use Rattle.order.specs.declared.answer.Answer.{Answer}
+use Rattle.order.specs.declared.answer.Answer.the-variants.{Done, Full}
 use Rattle.demands.specs.Following.{AgreeOrFull}
 use Rattle.demands.specs.History.{Entry, log}
 use Rattle.demands.proofs.OrderByOrder.{by-room}
@@ -54,7 +55,8 @@ unfolding Serve.answer Serve.no-room Serve.after list-answer
 out-of-range i b p t = (rw (Serve.answer, Serve.no-room, t) (ap (λ (c : Bool). in-range c (Done 0)) t), rw (Serve.after, t))
 
 inserts : (i : ℕ) (b : Bool) (p q : Pool) → Wider p q
-    → leb i (length (marks (p .tree))) ≡ true → leb i (length (marks (q .tree))) ≡ true → Steps (Pool.insert (two-free p) i b p) (Pool.insert (two-free q) i b q)
+    → leb i (length (marks (p .tree))) ≡ true → leb i (length (marks (q .tree))) ≡ true
+    → Steps (Pool.insert (two-free p) i b p) (Pool.insert (two-free q) i b q)
     → Both (after (inserting i b) p) (after (inserting i b) q) (answer (inserting i b) p) (answer (inserting i b) q)
 unfolding code
 inserts i b p q w t u (alike p′ q′ e f v) =

@@ -5,8 +5,8 @@ use mathlib.Core.Bool.{Bool, true, false, _&&_}
 use mathlib.Core.List.{List, [], _∷_}
 use mathlib.Core.Logic.{_⊎_}
 use lib.Dec.{eqb}
-use Rattle.serve.specs.Answer.{code, value}
-use Rattle.serve.specs.Orders.{list-answer, list-after}
+use Rattle.order.specs.Answer.{code, value}
+use Rattle.order.specs.Plain.{list-answer, list-after}
 use Rattle.demands.specs.History.{Entry, asked}
 
 -- the code of an insert that found no room

@@ -6,10 +6,11 @@ use mathlib.Core.Path.{_≡_}
 use mathlib.Core.List.{List, [], _∷_, _++_}
 use lib.ListN.{length, take, drop, getD}
 use Rattle.pool.specs.Node.{node-words}
-use Rattle.window.specs.Calls.{BuildsTo, Ran, order-count}
+use Rattle.run.specs.Runs.{Ran, order-count}
+use Rattle.window.specs.Calls.{BuildsTo}
 use Rattle.window.specs.Layout.{WellFormed, trailer-in}
-use Rattle.serve.specs.Orders.{Asked, asks}
-use Rattle.serve.specs.declared.answer.Answer.the-variants.{Done}
+use Rattle.order.specs.Asked.{Asked, asks}
+use Rattle.order.specs.declared.answer.Answer.the-variants.{Done}
 use Rattle.window.specs.declared.trailer.Trailer.{Trailer}
 
 -- the trailer of a pool: its last six words

@@ -14,14 +14,16 @@ use Rattle.model.specs.Pool as Pool
 use Rattle.model.specs.Pool.{Pool}
 use Rattle.model.specs.Sound.{Sound, leaf-most}
 use Rattle.model.specs.Tree.{marks}
-use Rattle.model.specs.Word.{marks-of, words-of}
-use Rattle.serve.specs.Answer.{code}
-use Rattle.window.specs.Calls.{BuildsTo, Checked, Valued, Ran, order-count}
+use Rattle.model.specs.Word.{digit, marks-of, words-of}
+use Rattle.order.specs.Answer.{code}
+use Rattle.run.specs.Runs.{Ran, order-count}
+use Rattle.window.specs.Calls.{BuildsTo, Checked, Valued}
 use Rattle.window.specs.Layout.{Counted, Stands}
-use Rattle.serve.specs.Orders.{Asked, inserting, bit-value, list-after}
-use Rattle.window.specs.Orders.{after-all, answer, answer-words, list-after-all, list-answers, orders-of}
-use Rattle.serve.specs.declared.answer.Answer.{Answer}
-use Rattle.serve.specs.declared.answer.Answer.the-variants.{Done, Full}
+use Rattle.order.specs.Asked.{Asked, inserting}
+use Rattle.order.specs.Plain.{list-after}
+use Rattle.run.specs.Orders.{after-all, answer, answer-words, list-after-all, list-answers, orders-of}
+use Rattle.order.specs.declared.answer.Answer.{Answer}
+use Rattle.order.specs.declared.answer.Answer.the-variants.{Done, Full}
 use Rattle.demands.specs.Following.{full, ListAnswers, TellsFull, Follows, NoneFull, AllRefused, AgreeOrFull, carried-out, done}
 use Rattle.demands.specs.History.{Accepted, Entry, Exchange, History, InRun, all-orders, asked, log, trailer}
 
@@ -154,7 +156,7 @@ abbrev pub DoneIsDone : Type 0
 DoneIsDone =
     (ws : List ℕ) (e : Exchange) (n m : ℕ) (p q : Pool)
     → InRun ws e → Stands (e .before) n p → Stands (e .after) m q → e .entry .code ≡ 0
-    → ((b : Bool) → e .entry .number ≡ 1 → e .entry .third ≡ bit-value b
+    → ((b : Bool) → e .entry .number ≡ 1 → e .entry .third ≡ digit b
     → marks (q .tree) ≡ Marks.insert (e .entry .second) b (marks (p .tree)))
     × (e .entry .number ≡ 2 → marks (q .tree) ≡ Marks.remove (e .entry .second) (marks (p .tree)))
 

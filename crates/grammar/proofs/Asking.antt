@@ -12,14 +12,16 @@ use lib.Seq.{take-all}
 use borrow.Author.Tests.{eqb-true, le-ltb}
 use Rattle.bytes.specs.Bytes.{indexAfter, indexOf}
 use Rattle.model.proofs.Cases.{by-ltb, by-test}
-use Rattle.serve.specs.Orders.{Asked, asks, with-bit}
-use Rattle.grammar.specs.Lines.{asks-with, fields, hex-words, line-of, load-of, loading, named, no-field, one-number, order-with, ordering, two-numbers, wanted, wanted-of, Wanted}
-use Rattle.grammar.specs.Text.{all-digits, decimal, number-in, pieces, space, worth}
+use Rattle.model.specs.Word.{digit}
+use Rattle.order.specs.Asked.{Asked, asks, with-bit}
+use Rattle.text.specs.Text.{fields}
+use Rattle.grammar.specs.Lines.{asks-with, hex-words, line-of, load-of, loading, named, no-field, one-number, order-with, ordering, two-numbers, wanted, wanted-of, Wanted}
+use Rattle.text.specs.Text.{all-digits, decimal, number-in, pieces, space, worth}
 use Rattle.grammar.specs.declared.fields.Name.the-variants.{Insert, Rank, Select}
-use Rattle.grammar.specs.declared.numbers.Number.{Number}
-use Rattle.grammar.specs.declared.numbers.Number.the-variants.{Value, Nothing}
-use Rattle.grammar.proofs.Cutting.{by-mark, pieces-more, pieces-one, pieces-some}
-use Rattle.grammar.proofs.Digits.{numeral-not}
+use Rattle.text.specs.declared.numbers.Number.{Number}
+use Rattle.text.specs.declared.numbers.Number.the-variants.{Value, Nothing}
+use Rattle.text.proofs.Cutting.{by-mark, pieces-more, pieces-one, pieces-some}
+use Rattle.text.proofs.Digits.{numeral-not}
 
 -- ---- a space is no digit
 
@@ -31,7 +33,8 @@ spaced-digits base most (b ∷ bs) h =
     by-test (eqb b space)
     (λ e. rw (eqb-true b space e, le-ltb 16 base most))
     (λ e.
-    let later : all-digits base bs ≡ false = spaced-digits base most bs (let less : suc (indexOf space bs) < suc (length bs) = rw e at h in omega arith) in
+    let later : all-digits base bs ≡ false =
+    spaced-digits base most bs (let less : suc (indexOf space bs) < suc (length bs) = rw e at h in omega arith) in
     by-test (ltb (worth b) base) (λ t. rw t later) (λ t. rw t))
 
 -- and no decimal
@@ -88,7 +91,8 @@ one-number-is bs ask =
     by-mark space bs (λ h. ap (λ (fs : List (List ℕ)). one-number fs ask) (pieces-one space bs h))
     (λ h.
     ap (λ (fs : List (List ℕ)). one-number fs ask) (pieces-more space bs h)
-    ∙ pieces-some space (λ (fs : List (List ℕ)). one-number (take (indexOf space bs) bs ∷ fs) ask ≡ none) (drop (suc (indexOf space bs)) bs) (λ f fs. refl)
+    ∙ pieces-some space (λ (fs : List (List ℕ)). one-number (take (indexOf space bs) bs ∷ fs) ask ≡ none) (drop (suc (indexOf space bs)) bs)
+    (λ f fs. refl)
     ∙ ap (λ (o : Option ℕ). bind o ask) (sym (decimal-spaced bs h)))
 
 -- whatever number there is, nothing is asked
@@ -104,7 +108,8 @@ module _ {bs : List ℕ} {i : ℕ} (c : Cut bs i) where
   two-alone ask h = rw (fields-alone c h) (nothing (decimal (take i bs)))
 
   -- the first field, and all that stands behind it
-  pub two-more : (ask : ℕ → ℕ → Option Wanted) → i < length bs → two-numbers (fields bs) ask ≡ bind (decimal (take i bs)) (λ m. bind (decimal (behind bs i)) (ask m))
+  pub two-more : (ask : ℕ → ℕ → Option Wanted) → i < length bs
+      → two-numbers (fields bs) ask ≡ bind (decimal (take i bs)) (λ m. bind (decimal (behind bs i)) (ask m))
   unfolding two-numbers
   two-more ask h = rw (more c h) (ap (bind (decimal (take i bs))) (fun-ext (λ m. one-number-is (behind bs i) (ask m))))
 
@@ -117,7 +122,8 @@ module _ {bs : List ℕ} {i : ℕ} (c : Cut bs i) where
   unfolding load-of hex-words bind
   load-alone e h = rw (fields-alone c h, e)
 
-  pub load-more : {n : ℕ} → decimal (take i bs) ≡ some n → i < length bs → load-of (fields bs) ≡ bind (hex-words (fields (behind bs i))) (λ ws. some (loading n ws))
+  pub load-more : {n : ℕ} → decimal (take i bs) ≡ some n → i < length bs
+      → load-of (fields bs) ≡ bind (hex-words (fields (behind bs i))) (λ ws. some (loading n ws))
   unfolding load-of bind
   load-more e h = rw (more c h, e)
 
@@ -134,7 +140,7 @@ module _ {bs : List ℕ} {i : ℕ} (c : Cut bs i) where
 
 -- a number that is a bit
 pub bit-is : (n x b : ℕ) → b ≤ 1 → order-with b (asks-with n x) ≡ some (ordering (asks n x b))
-unfolding order-with
+unfolding order-with digit
 bit-is n x zero h = refl
 bit-is n x (suc zero) h = refl
 bit-is n x (suc (suc b)) h = absurd (omega arith)
@@ -149,18 +155,20 @@ bit-not (suc (suc b)) ask h = refl
 module _ (fs : List (List ℕ)) where
   -- an insert, by the number of its order
   pub insert-line : line-of Insert fs ≡ two-numbers fs (λ i b. order-with b (asks-with 1 i))
-  unfolding line-of asks with-bit
-  insert-line = ap (λ (f : ℕ → Bool → Asked). two-numbers fs (λ i b. order-with b (f i))) (fun-ext (λ x. fun-ext (elim [ true ↦ refl | false ↦ refl ])))
+  unfolding line-of asks with-bit digit
+  insert-line = ap (λ (f : ℕ → Bool → Asked). two-numbers fs (λ i b. order-with b (f i)))
+      (fun-ext (λ x. fun-ext (elim [ true ↦ refl | false ↦ refl ])))
 
   -- the same of rank
   pub rank-line : line-of Rank fs ≡ two-numbers fs (λ b i. order-with b (asks-with 4 i))
-  unfolding line-of asks with-bit
+  unfolding line-of asks with-bit digit
   rank-line = ap (λ (f : ℕ → Bool → Asked). two-numbers fs (λ b i. order-with b (f i))) (fun-ext (λ x. fun-ext (elim [ true ↦ refl | false ↦ refl ])))
 
   -- and of select
   pub select-line : line-of Select fs ≡ two-numbers fs (λ b i. order-with b (asks-with 5 i))
-  unfolding line-of asks with-bit
-  select-line = ap (λ (f : ℕ → Bool → Asked). two-numbers fs (λ b i. order-with b (f i))) (fun-ext (λ x. fun-ext (elim [ true ↦ refl | false ↦ refl ])))
+  unfolding line-of asks with-bit digit
+  select-line = ap (λ (f : ℕ → Bool → Asked). two-numbers fs (λ b i. order-with b (f i)))
+      (fun-ext (λ x. fun-ext (elim [ true ↦ refl | false ↦ refl ])))
 
 -- ---- what was read
 

@@ -8,12 +8,13 @@ use mathlib.Core.Option.{Option, none, some, bind}
 use lib.ListN.{length, take, drop, set, length-drop, length-set, length-take}
 use lib.Seq.{append-snoc, drop-drop, length-take-le, take-length, take-suc-set}
 use Rattle.bytes.specs.Bytes.{indexOf, slice}
-use Rattle.grammar.specs.Lines.{fields, hex-words, WordsRead}
-use Rattle.grammar.specs.Text.{hex-word, space}
-use Rattle.grammar.specs.declared.numbers.Number.the-variants.{Value, Nothing}
+use Rattle.text.specs.Text.{fields}
+use Rattle.grammar.specs.Lines.{hex-words, WordsRead}
+use Rattle.text.specs.Text.{hex-word, space}
+use Rattle.text.specs.declared.numbers.Number.the-variants.{Value, Nothing}
 use Rattle.grammar.proofs.Asking.{by-cut, Cut, fields-alone, fields-more}
-use Rattle.grammar.proofs.Cutting.{index-within}
-use Rattle.grammar.proofs.Digits.{hex-long}
+use Rattle.text.proofs.Cutting.{index-within}
+use Rattle.text.proofs.Digits.{hex-long}
 
 -- words with some before them
 abbrev after : List ℕ → Option (List ℕ) → Option (List ℕ)

@@ -1,7 +1,4 @@
 pub mod Asking
-pub mod Cutting
-pub mod Digits
 pub mod Gathering
+pub mod Names
 pub mod Pinned
-pub mod Putting
-pub mod Stepwise

@@ -10,17 +10,15 @@ use mathlib.Core.Option.{Option, none, some, bind}
 use denote.Ref.{now}
 use lib.ListN.{length, take}
 use lib.Seq.{length-take-le}
-use Rattle.serve.specs.Orders.{Asked, asks, accessing, bit-value, inserting, quiet, ranking, removing, selecting, unknown, with-bit, with-zero}
-use Rattle.grammar.specs.Lines.{dumping, line-of, load-of, loading, named, no-field, one-number, order-with, ordering, pooling, Reads, Tells, two-numbers, wanted, wanted-of, Wanted}
-use Rattle.grammar.specs.Lines as Lines
-use Rattle.grammar.specs.Text.{decimal}
+use Rattle.model.specs.Word.{digit}
+use Rattle.order.specs.Asked.{Asked, asks, accessing, inserting, quiet, ranking, removing, selecting, unknown, with-bit, with-zero}
+use Rattle.grammar.specs.Lines.{dumping, hex-words, line-of, load-of, loading, named, no-field, one-number, order-with, ordering, pooling, Reads, Tells, two-numbers, wanted, wanted-of, Wanted}
+use Rattle.text.specs.Text.{decimal, fields}
 use Rattle.grammar.specs.declared.fields.Name.{Name}
 use Rattle.grammar.specs.declared.fields.Name.the-variants.{Pool, Load, Insert, Remove, Get, Rank, Select, Gap, Dump, Other}
 use Rattle.grammar.specs.declared.reading.Line.{Line}
 use Rattle.grammar.specs.declared.reading.Line.the-variants.{Pool as Line·Pool, Load as Line·Load, Order as Line·Order, Dump as Line·Dump, Malformed as Line·Malformed}
 use Rattle.grammar.specs.declared.reading.Order.{Order}
-use Rattle.grammar.proofs.numbers.put_decimal.Reads as put-decimal
-use Rattle.grammar.proofs.numbers.put_hex.Reads as put-hex
 use Rattle.grammar.proofs.reading.read.Reads as read
 
 -- ---- no line asks for an unknown order
@@ -60,7 +58,7 @@ sensible-two (f ∷ fs) ask h = sensible-bind (decimal f) (λ m. one-number fs (
 sensible-load : (fs : List (List ℕ)) → Sensible (load-of fs)
 unfolding load-of
 sensible-load [] = tt
-sensible-load (f ∷ fs) = sensible-bind (decimal f) _ (λ n. sensible-bind (Lines.hex-words fs) _ (λ ws. tt))
+sensible-load (f ∷ fs) = sensible-bind (decimal f) _ (λ n. sensible-bind (hex-words fs) _ (λ ws. tt))
 
 sensible-none : (fs : List (List ℕ)) (w : Option Wanted) → Sensible w → Sensible (no-field fs w)
 unfolding no-field
@@ -93,22 +91,22 @@ sensible-fields (f ∷ fs) = sensible-line (named f) fs
 
 sensible : (bs : List ℕ) → Sensible (wanted bs)
 unfolding wanted
-sensible bs = sensible-fields (Lines.fields bs)
+sensible bs = sensible-fields (fields bs)
 
 -- ---- what is asked for tells the answer
 
 -- an order's three words
 order-for : Asked → Order
-order-for (inserting i b) = record { number = 1; second = i; third = bit-value b }
+order-for (inserting i b) = record { number = 1; second = i; third = digit b }
 order-for (removing i) = record { number = 2; second = i; third = 0 }
 order-for (accessing i) = record { number = 3; second = i; third = 0 }
-order-for (ranking i b) = record { number = 4; second = i; third = bit-value b }
-order-for (selecting i b) = record { number = 5; second = i; third = bit-value b }
+order-for (ranking i b) = record { number = 4; second = i; third = digit b }
+order-for (selecting i b) = record { number = 5; second = i; third = digit b }
 order-for quiet = record { number = 6; second = 0; third = 0 }
 order-for unknown = record { number = 0; second = 0; third = 0 }
 
 asks-back : (n x y : ℕ) → Known (asks n x y) → order-for (asks n x y) ≡ record { number = n; second = x; third = y }
-unfolding order-for asks with-bit with-zero
+unfolding order-for asks with-bit with-zero digit
 asks-back zero x y h = absurd h
 asks-back (suc zero) x zero h = refl
 asks-back (suc zero) x (suc zero) h = refl
@@ -178,11 +176,3 @@ reads-one bs r r′ ws ws′ p q =
 pub read-pinned : (κs : _) (a : _) (r r′ : _) (w w′ : _) → read.Post κs a r w → read.Post κs a r′ w′
     → (r ≡ r′) × (loaded r (now (w .1 .0)) ≡ loaded r′ (now (w′ .1 .0)))
 read-pinned κs a r r′ w w′ p q = reads-one _ r r′ _ _ p q
-
-pub put-decimal-pinned : (κs : _) (a : _) (r r′ : _) (w w′ : _) → put-decimal.Post κs a r w → put-decimal.Post κs a r′ w′
-    → (r ≡ r′) × (now (w .0) ≡ now (w′ .0))
-put-decimal-pinned κs a r r′ w w′ p q = (p .0 ∙ sym (q .0), p .1 ∙ sym (q .1))
-
-pub put-hex-pinned : (κs : _) (a : _) (r r′ : _) (w w′ : _) → put-hex.Post κs a r w → put-hex.Post κs a r′ w′
-    → (r ≡ r′) × (now (w .0) ≡ now (w′ .0))
-put-hex-pinned κs a r r′ w w′ p q = (p .0 ∙ sym (q .0), p .1 ∙ sym (q .1))

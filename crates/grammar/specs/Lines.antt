@@ -12,36 +12,20 @@
 use Prim.Native.Nat.{ℕ, zero, suc, _≤_}
 use mathlib.Core.Path.{_≡_}
 use mathlib.Core.Bool.{Bool, true, false}
-use mathlib.Core.List.{List, [], _∷_}
+use mathlib.Core.List.{List, [], _∷_, _++_}
 use mathlib.Core.Option.{Option, none, some, bind}
 use lib.ListN.{length, take}
-use Rattle.serve.specs.Orders.{Asked, asks, bit-value, inserting, removing, accessing, ranking, selecting, quiet}
-use Rattle.grammar.specs.Text.{decimal, hex-word, newline, pieces, same, space}
+use Rattle.model.specs.Word.{digit}
+use Rattle.order.specs.Asked.{Asked, asks, inserting, removing, accessing, ranking, selecting, quiet}
+use Rattle.text.specs.Text.{decimal, fields, hex-word, same}
 use Rattle.grammar.specs.declared.fields.Name.{Name}
 use Rattle.grammar.specs.declared.fields.Name.the-variants.{Pool, Load, Insert, Remove, Get, Rank, Select, Gap, Dump, Other}
 use Rattle.grammar.specs.declared.fields.Pair.{Pair}
 use Rattle.grammar.specs.declared.fields.Pair.the-variants.{Both, Nothing as Pair·Nothing}
-use Rattle.grammar.specs.declared.numbers.Number.{Number}
-use Rattle.grammar.specs.declared.numbers.Number.the-variants.{Value, Nothing}
+use Rattle.text.specs.declared.numbers.Number.{Number}
+use Rattle.text.specs.declared.numbers.Number.the-variants.{Value, Nothing}
 use Rattle.grammar.specs.declared.reading.Line.{Line}
 use Rattle.grammar.specs.declared.reading.Line.the-variants.{Pool as Line·Pool, Load as Line·Load, Order as Line·Order, Dump as Line·Dump, Malformed as Line·Malformed}
-
--- ---- lines
-
--- what stands after the last newline is a line where it is not empty
-unfoldable pub closed : List (List ℕ) → List (List ℕ)
-closed [] = []
-closed ([] ∷ []) = []
-closed ((b ∷ bs) ∷ []) = (b ∷ bs) ∷ []
-closed (l ∷ m ∷ ls) = l ∷ closed (m ∷ ls)
-
--- each newline ends a line
-unfoldable pub lines : List ℕ → List (List ℕ)
-lines bs = closed (pieces newline bs)
-
--- a line is its fields, between single spaces
-unfoldable pub fields : List ℕ → List (List ℕ)
-fields bs = pieces space bs
 
 -- ---- names
 
@@ -65,6 +49,12 @@ first-named bs (n ∷ ns) = elim (same bs (spelled n)) [ true ↦ n | false ↦ 
 abbrev pub names : List Name
 names = Pool ∷ Load ∷ Insert ∷ Remove ∷ Get ∷ Rank ∷ Select ∷ Gap ∷ Dump ∷ []
 
+-- names in a row
+unfoldable pub all-spelled : List Name → List ℕ
+all-spelled [] = []
+all-spelled (n ∷ ns) = spelled n ++ all-spelled ns
+
+-- the name that a field is
 unfoldable pub named : List ℕ → Name
 named bs = first-named bs names
 
@@ -145,12 +135,12 @@ unfoldable pub Reads : List ℕ → Line → List ℕ → Type 0
 Reads bs r ws = Tells (wanted bs) r ws
 
 -- what is wanted is no load, and was told so
-abbrev pub Says : Option Wanted → Line → Type 0
-Says w r = (ws : List ℕ) → Tells w r ws
+abbrev pub ReadAs : Option Wanted → Line → Type 0
+ReadAs w r = (ws : List ℕ) → Tells w r ws
 
 -- the order of a number, a second word and a bit
 abbrev pub asks-with : ℕ → ℕ → Bool → Asked
-asks-with n x b = asks n x (bit-value b)
+asks-with n x b = asks n x (digit b)
 
 -- what is asked with two numbers, where there are two
 abbrev pub given : Pair → (ℕ → ℕ → Option Wanted) → Option Wanted

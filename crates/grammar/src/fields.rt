@@ -1,17 +1,17 @@
-// The fields of a line, between single spaces.
+// The name that a line begins with, and the fields after it.
 ghost use mathlib.Core.Path.{_≡_};
 ghost use mathlib.Core.Option.{Option};
 ghost use Prim.Native.Nat.{ℕ, _*_, _≤_, _<_};
-ghost use lib.ListN.{length};
-ghost use Rattle.bytes.specs.Bytes.{indexOf};
-ghost use Rattle.grammar.specs.Lines.{fields as Lines·fields, given, hex-words, named, two-numbers, Wanted, WordsRead};
-ghost use Rattle.grammar.specs.Text.{same};
-use crate::numbers::Number;
-use crate::numbers::decimal;
-use crate::numbers::hex_word;
+ghost use lib.ListN.{getD, length};
+ghost use Rattle.text.specs.Text.{fields as Text·fields};
+ghost use Rattle.grammar.specs.Lines.{all-spelled, given, hex-words, named, names, two-numbers, Wanted, WordsRead};
 use bytes::scan::find;
-
-const SPACE: u8 = b' ';
+use text::Number;
+use text::SPACE;
+use text::decimal;
+use text::field_end;
+use text::hex_word;
+use text::is_word;
 
 // The name that a line begins with.
 pub enum Name {
@@ -38,67 +38,55 @@ pub enum Pair {
     Nothing,
 }
 
-// Where the first field ends: at a space, or at the end.
-pub fn field_end(fields: &[u8]) -> usize
-    ensures { λ r. ⌜ r ≡ indexOf 32 (now (fields .entry)) ⌝ }
-    ensures { λ r. ⌜ r ≤ length (now (fields .entry)) ⌝ }
+// Where each name begins in the row of all names, and where the last one ends.
+const STARTS: [usize; 10] = [0, 4, 8, 11, 14, 17, 21, 24, 27, 31];
+
+// The name of a number, as they stand in the row.
+fn name_at(i: usize) -> Name
+    ensures { λ r. ⌜ r ≡ getD names i Name.Other ⌝ }
 {
-    find(fields, 0, fields.len(), SPACE)
+    match i {
+        0 => Name::Pool,
+        1 => Name::Load,
+        2 => Name::Insert,
+        3 => Name::Remove,
+        4 => Name::Get,
+        5 => Name::Rank,
+        6 => Name::Select,
+        7 => Name::Gap,
+        8 => Name::Dump,
+        _ => Name::Other,
+    }
 }
 
-// A field is a word, byte for byte.
-fn is_word(field: &[u8], word: &[u8]) -> bool
-    ensures { λ r. ⌜ r ≡ same (now (field .entry)) (now (word .entry)) ⌝ }
-{
-    if field.len() != word.len() {
-        return false;
-    }
-    let mut i = 0;
-    while i < field.len() {
-        if field[i] != word[i] {
-            return false;
-        }
-        i += 1;
-    }
-    true
-}
-
-pub fn name_of(field: &[u8]) -> Name
+// The first name of a row that a field is.
+fn name_in(field: &[u8], row: &[u8]) -> Name
+    requires { ⌜ now row ≡ all-spelled names ⌝ }
     ensures { λ r. ⌜ r ≡ named (now (field .entry)) ⌝ }
 {
-    if is_word(field, b"pool") {
-        return Name::Pool;
-    }
-    if is_word(field, b"load") {
-        return Name::Load;
-    }
-    if is_word(field, b"ins") {
-        return Name::Insert;
-    }
-    if is_word(field, b"rem") {
-        return Name::Remove;
-    }
-    if is_word(field, b"get") {
-        return Name::Get;
-    }
-    if is_word(field, b"rank") {
-        return Name::Rank;
-    }
-    if is_word(field, b"sel") {
-        return Name::Select;
-    }
-    if is_word(field, b"gap") {
-        return Name::Gap;
-    }
-    if is_word(field, b"dump") {
-        return Name::Dump;
+    let mut i = 0;
+    while i < 9 {
+        let from = STARTS[i];
+        let to = STARTS[i + 1];
+        if is_word(field, &row[from..to]) {
+            return name_at(i);
+        }
+        i += 1;
     }
     Name::Other
 }
 
+// The name that a field is.
+pub fn name_of(field: &[u8]) -> Name
+    ensures { λ r. ⌜ r ≡ named (now (field .entry)) ⌝ }
+{
+    name_in(field, b"poolloadinsremgetrankselgapdump")
+}
+
 // Two decimals and nothing else.
 pub fn two_decimals(fields: &[u8]) -> Pair
-    ensures { λ r. ⌜ ((ask : ℕ → ℕ → Option Wanted) → two-numbers (Lines·fields (now (fields .entry))) ask ≡ given r ask) ⌝ }
+    ensures { λ r. ⌜ ((ask : ℕ → ℕ → Option Wanted)
+        → two-numbers (Text·fields (now (fields .entry))) ask ≡ given r ask) ⌝ }
 {
     let end = field_end(fields);
     if end == fields.len() {
@@ -117,7 +105,7 @@ pub fn two_decimals(fields: &[u8]) -> Pair
 // Hexadecimal words and nothing else, at least one; they are put in a row, and it is said how many they are.
 pub fn hex_words(fields: &[u8], words: &mut [u64]) -> Number
     requires { ⌜ length (now fields) < 17 * length (now words) ⌝ }
-    ensures { λ r. ⌜ WordsRead (hex-words (Lines·fields (now (fields .entry)))) r (now (words .exit)) ⌝ }
+    ensures { λ r. ⌜ WordsRead (hex-words (Text·fields (now (fields .entry)))) r (now (words .exit)) ⌝ }
 {
     let mut at = 0;
     let mut count = 0;

@@ -3,17 +3,24 @@ ghost use mathlib.Core.List.{[]};
 ghost use mathlib.Core.Option.{some};
 ghost use Prim.Native.Nat.{_*_, _≤_, _<_};
 ghost use lib.ListN as ListN;
-ghost use Rattle.serve.specs.Orders.{asks};
-ghost use Rattle.grammar.specs.Lines.{asks-with, fields as Lines·fields, line-of, load-of, one-number, order-with, ordering};
-ghost use Rattle.grammar.specs.Lines.{pooling, Reads, Says, Tells, two-numbers};
+ghost use Rattle.order.specs.Asked.{asks};
+ghost use Rattle.text.specs.Text.{fields as Text·fields};
+ghost use Rattle.grammar.specs.Lines.{asks-with, line-of, load-of, one-number, order-with, ordering};
+ghost use Rattle.grammar.specs.Lines.{pooling, Reads, ReadAs, Tells, two-numbers};
 use crate::fields::Name;
 use crate::fields::Pair;
-use crate::fields::field_end;
 use crate::fields::hex_words;
 use crate::fields::name_of;
 use crate::fields::two_decimals;
-use crate::numbers::Number;
-use crate::numbers::decimal;
+use order::ACCESS;
+use order::INSERT;
+use order::QUIET;
+use order::RANK;
+use order::REMOVE;
+use order::SELECT;
+use text::Number;
+use text::decimal;
+use text::field_end;
 
 // An order's three words.
 pub struct Order {
@@ -36,21 +43,9 @@ pub enum Line {
     Malformed,
 }
 
-const INSERT: u64 = 1;
-
-const REMOVE: u64 = 2;
-
-const ACCESS: u64 = 3;
-
-const RANK: u64 = 4;
-
-const SELECT: u64 = 5;
-
-const QUIET: u64 = 6;
-
 // A line that is its name alone.
 fn bare(name: Name) -> Line
-    ensures { λ r. ⌜ Says (line-of name []) r ⌝ }
+    ensures { λ r. ⌜ ReadAs (line-of name []) r ⌝ }
 {
     match name {
         Name::Gap => Line::Order(Order {
@@ -71,7 +66,7 @@ fn bare(name: Name) -> Line
 }
 
 fn pool_line(fields: &[u8]) -> Line
-    ensures { λ r. ⌜ Says (one-number (Lines·fields (now (fields .entry))) (λ n. some (pooling n))) r ⌝ }
+    ensures { λ r. ⌜ ReadAs (one-number (Text·fields (now (fields .entry))) (λ n. some (pooling n))) r ⌝ }
 {
     match decimal(fields) {
         Number::Value(nodes) => Line::Pool(nodes),
@@ -81,7 +76,8 @@ fn pool_line(fields: &[u8]) -> Line
 
 // An order on a place alone.
 fn at_place(number: u64, fields: &[u8]) -> Line
-    ensures { λ r. ⌜ Says (one-number (Lines·fields (now (fields .entry))) (λ i. some (ordering (asks number i 0)))) r ⌝ }
+    ensures { λ r. ⌜ ReadAs
+        (one-number (Text·fields (now (fields .entry))) (λ i. some (ordering (asks number i 0)))) r ⌝ }
 {
     match decimal(fields) {
         Number::Value(second) => Line::Order(Order {
@@ -95,7 +91,7 @@ fn at_place(number: u64, fields: &[u8]) -> Line
 
 // An order with a bit.
 fn with_bit(number: u64, second: u64, bit: u64) -> Line
-    ensures { λ r. ⌜ Says (order-with bit (asks-with number second)) r ⌝ }
+    ensures { λ r. ⌜ ReadAs (order-with bit (asks-with number second)) r ⌝ }
 {
     if 1 < bit {
         return Line::Malformed;
@@ -109,7 +105,8 @@ fn with_bit(number: u64, second: u64, bit: u64) -> Line
 
 // A place, and then a bit.
 fn place_and_bit(number: u64, fields: &[u8]) -> Line
-    ensures { λ r. ⌜ Says (two-numbers (Lines·fields (now (fields .entry))) (λ i b. order-with b (asks-with number i))) r ⌝ }
+    ensures { λ r. ⌜ ReadAs
+        (two-numbers (Text·fields (now (fields .entry))) (λ i b. order-with b (asks-with number i))) r ⌝ }
 {
     match two_decimals(fields) {
         Pair::Both(two) => with_bit(number, two.first, two.second),
@@ -119,7 +116,8 @@ fn place_and_bit(number: u64, fields: &[u8]) -> Line
 
 // A bit, and then a place or a count.
 fn bit_and_place(number: u64, fields: &[u8]) -> Line
-    ensures { λ r. ⌜ Says (two-numbers (Lines·fields (now (fields .entry))) (λ b i. order-with b (asks-with number i))) r ⌝ }
+    ensures { λ r. ⌜ ReadAs
+        (two-numbers (Text·fields (now (fields .entry))) (λ b i. order-with b (asks-with number i))) r ⌝ }
 {
     match two_decimals(fields) {
         Pair::Both(two) => with_bit(number, two.second, two.first),
@@ -130,7 +128,7 @@ fn bit_and_place(number: u64, fields: &[u8]) -> Line
 // A length, and then none or more words.
 fn load_line(fields: &[u8], words: &mut [u64]) -> Line
     requires { ⌜ ListN.length (now fields) < 17 * ListN.length (now words) ⌝ }
-    ensures { λ r. ⌜ Tells (load-of (Lines·fields (now (fields .entry)))) r (now (words .exit)) ⌝ }
+    ensures { λ r. ⌜ Tells (load-of (Text·fields (now (fields .entry)))) r (now (words .exit)) ⌝ }
 {
     let end = field_end(fields);
     let Number::Value(length) = decimal(&fields[..end]) else {
@@ -148,7 +146,7 @@ fn load_line(fields: &[u8], words: &mut [u64]) -> Line
 
 fn with_fields(name: Name, fields: &[u8], words: &mut [u64]) -> Line
     requires { ⌜ ListN.length (now fields) < 17 * ListN.length (now words) ⌝ }
-    ensures { λ r. ⌜ Tells (line-of name (Lines·fields (now (fields .entry)))) r (now (words .exit)) ⌝ }
+    ensures { λ r. ⌜ Tells (line-of name (Text·fields (now (fields .entry)))) r (now (words .exit)) ⌝ }
 {
     match name {
         Name::Pool => pool_line(fields),

@@ -3,21 +3,17 @@ use Prim.Native.Nat.{ℕ, suc, _+_, _-_, _≤_, _<_, _^_}
 use native.Mathlib.Omega.{arith}
 use mathlib.Core.Path.{_≡_, refl, sym, ap, _∙_}
 use mathlib.Core.Bool.{Bool, true, false}
-use mathlib.Core.List.{List, []}
+use mathlib.Core.List.{List}
 use borrow.Author.Tests.{le-leb, lt-ltb, le-ltb}
-use lib.Dec.{leb}
 use lib.IntN.{ℤ, pos}
 use lib.ListN.{length}
-use mir.Syntax.{w64}
-use mir.Val.{SFits}
-use mir.ValLaws.{toZ-ofZ}
-use Rattle.model.specs.Edit.{insert, settle, splits, leaf-at}
+use Rattle.model.specs.Edit.{insert, splits, leaf-at}
 use Rattle.model.specs.Marks as Marks
 use Rattle.model.specs.Marks.{count}
 use Rattle.model.specs.Tree as Tree
 use Rattle.model.specs.Tree.{Tree, fork, top, marks, size, height, numbers}
 use Rattle.model.specs.Turn.{rebalance}
-use Rattle.model.proofs.Cases.{by-ltb, splits-left, splits-right}
+use Rattle.model.proofs.Cases.{splits-left, splits-right}
 use Rattle.model.proofs.Content.{insert-size}
 use Rattle.model.proofs.MarksEdits.{length-insert}
 use Rattle.model.proofs.Paths.{count-size}
@@ -30,133 +26,100 @@ use Rattle.pool.specs.Node.{fork-cell, node-at, put, Put}
 use Rattle.pool.specs.declared.node.Fork.{Fork}
 use Rattle.pool.specs.declared.node.Node.the-variants as Node
 use Rattle.pool.proofs.Cells.{put-fork, fork-says, leaf-says}
-use Rattle.pool.proofs.Standing.{leaf-small, some-level}
-use Rattle.tree.specs.Stepping.{step-left, step-right}
+use Rattle.pool.proofs.Standing.{leaf-small}
 use Rattle.tree.specs.declared.steps.Step.{Step}
-use Rattle.turn.specs.Apart.{Apart}
-use Rattle.turn.specs.Sites.{After, Leveled, Stale, fork-at-heights, side}
-use Rattle.turn.proofs.Differences.{held}
-use Rattle.turn.proofs.Sites.{Altered, Around, by-leaf-at, by-fork-at, site-below, around-first, first-stays, top-apart, stale, after-leveled, after-level}
-use Rattle.grow.specs.Inserting.{ToInsert, ToSettle, rest, with-mark}
+use Rattle.turn.specs.Sites.{After, Site, fork-at-heights, side}
+use Rattle.turn.proofs.Differences.{equal}
+use Rattle.turn.proofs.Sites.{around-first, by-fork-at, first-stays, top-apart}
+use Rattle.descent.proofs.Back.{Changed, Levels, ToLevel, changes, level, leveled, to-level}
+use Rattle.descent.proofs.Down.{Down, IsLeaf, Stepped, Toward, by-step, child-stands, down, is-leaf, top-put}
+use Rattle.grow.specs.Inserting.{Inserted, Settled, ToInsert, ToSettle, rest, with-mark}
 use Rattle.grow.proofs.Altering.{insert-count, insert-alters}
-
--- the tree has fewer marks than a word can count
-pub insert-fits : {w : List ℕ} {n levels end head total index : ℕ} (t : Tree) (free : List ℕ) → ToInsert w n levels end head total index t free → total + 1 < 2 ^ 64
-insert-fits t free q = let few = q .site .few in omega (arith, q .total-is)
-
--- a change is handed on as a word
-pub after-held : {w w′ : List ℕ} {end head : ℕ} {t t′ : Tree} {free free′ : List ℕ} (g : ℤ) → SFits w64 g → After w w′ end head g t t′ free free′
-    → After w w′ end head (held g) t t′ free free′
-after-held g fits a = rw (toZ-ofZ w64 g fits) a
 
 -- ---- a leaf was read
 
-module _ {w : List ℕ} {n levels end head total index : ℕ} (bit : Bool) {x y : Leaf} (read : node-at w n ≡ Node.Leaf x)
-    (made : y ≡ leaf-of (Marks.insert index bit (bits-of x))) where
-  settles : (ys : List Bool) (free : List ℕ) → ToInsert w n levels end head total index (Tree.leaf n ys) free → x ≡ leaf-of ys
-      → ToSettle w n end head y (total + 1) (Marks.insert index bit ys) free
-  unfolding size numbers splits leaf-at
-  settles ys free q e =
-      let small = leaf-small n ys (q .site .rooted) in
-      let within : index ≤ length ys = omega (arith, q .within, q .total-is) in
-      let long = length-insert index bit ys within in
-      record {
-        held = made ∙ rw e (insert-held ys index bit small within);
-        total-is = omega (arith, q .total-is);
-        most = omega arith;
-        there = leaf-says w n x read .0;
-        once = q .site .once;
-        chained = q .site .chained;
-        first = q .site .first;
-        room = λ full. q .room (le-leb 128 (suc (length ys)) (omega arith));
-      }
+module _ {w : List ℕ} {n levels head total index : ℕ} {x y : Leaf} (b : ToInsert w n levels head total index) (bit : Bool)
+    (read : node-at w n ≡ Node.Leaf x) (made : y ≡ leaf-of (Marks.insert index bit (bits-of x))) where
+  here : IsLeaf n x (b .at .tree)
+  here = is-leaf (b .at .site .rooted) read
+
+  stands : Site w n levels (b .at .end) head (Tree.leaf n (here .marks)) (b .at .free)
+  stands = rw (here .is) at (b .at .site)
+
+  long : length (here .marks) ≡ total
+  unfolding size
+  long = rw (here .is) at (b .at .total-is)
 
   -- the leaf with the mark can be settled
-  pub insert-at-leaf : (t : Tree) (free : List ℕ) → ToInsert w n levels end head total index t free → (xs : List Bool) × ToSettle w n end head y (total + 1) xs free
-  insert-at-leaf t free q =
-      by-leaf-at (λ (t : Tree). ToInsert w n levels end head total index t free → (xs : List Bool) × ToSettle w n end head y (total + 1) xs free)
-      t x (q .site .rooted) read (λ ys h e q. (Marks.insert index bit ys, settles ys free q e)) q
+  pub to-settle : ToSettle w n head y (total + 1)
+  unfolding numbers splits leaf-at
+  to-settle =
+      let within : index ≤ length (here .marks) = omega (arith, b .within, long) in
+      let small = leaf-small n (here .marks) (stands .rooted) in
+      let longer = length-insert index bit (here .marks) within in
+      let split = rw (here .is) at (b .room) in
+      record {
+        end = b .at .end;
+        marks = Marks.insert index bit (here .marks);
+        free = b .at .free;
+        held =
+            made ∙ ap (λ (z : Leaf). leaf-of (Marks.insert index bit (bits-of z))) (here .says)
+            ∙ insert-held (here .marks) index bit small within;
+        total-is = omega (arith, long);
+        most = omega arith;
+        there = leaf-says w n x read .0;
+        once = stands .once;
+        chained = stands .chained;
+        first = stands .first;
+        room = λ full. split (le-leb 128 (suc (length (here .marks))) (omega arith));
+      }
 
   -- and settled it is the tree with the mark
-  pub inserted-at-leaf : {w′ : List ℕ} {head′ : ℕ} {g : ℤ} (t : Tree) (free : List ℕ) → ToInsert w n levels end head total index t free
-      → ((xs : List Bool) → ToSettle w n end head y (total + 1) xs free
-      → After w w′ end head′ g (Tree.leaf n []) (settle n xs free) free (rest (leb 128 (total + 1)) free))
-      → After w w′ end head′ g t (insert index bit free t) free (rest (splits index t) free)
-  unfolding size numbers height insert splits leaf-at
-  inserted-at-leaf {w′} {head′} {g} t free q done =
-      by-leaf-at
-      (λ (t : Tree). ToInsert w n levels end head total index t free → After w w′ end head′ g t (insert index bit free t) free (rest (splits index t) free))
-      t x (q .site .rooted) read
-      (λ ys h e q.
-      let a = done (Marks.insert index bit ys) (settles ys free q e) in
-      let same : total + 1 ≡ suc (length ys) = omega (arith, q .total-is) in
-      record {
+  pub settled-leaf : {w′ : List ℕ} {head′ : ℕ} {g : ℤ} → Settled to-settle w′ head′ g → Inserted b w′ head′ g bit
+  unfolding numbers height insert splits leaf-at Marks.insert to-settle
+  settled-leaf {w′} {head′} {g} a =
+      let same : total + 1 ≡ suc (length (here .marks)) = omega (arith, long) in
+      rw (here .is)
+      (record {
         edited = record { size = a .edited .size; holds = a .edited .holds; else = a .edited .else };
         chained = rw (← same) (a .chained);
         first = rw (← same) (a .first);
-        change = record { told = a .change .told };
-      }) q
+        change = equal g _ _ (a .change) refl refl;
+      })
 
 -- ---- a fork was read
 
-module _ {w : List ℕ} {n levels end head total index : ℕ} (t : Tree) (free : List ℕ) (q : ToInsert w n levels end head total index t free) {f : Fork}
-    (read : node-at w n ≡ Node.Fork f) where
-  -- there is a level below
-  pub insert-level : 1 ≤ levels
-  insert-level = by-fork-at (λ _. 1 ≤ levels) t f (q .site .rooted) read (λ l r h s. some-level n l r h)
+-- with one mark more in the left child its totals fit a word
+pub left-fits : {w : List ℕ} {n levels head total index : ℕ} {f : Fork} → ToInsert w n levels head total index
+    → node-at w n ≡ Node.Fork f → (f .«left_total» + 1 < 2 ^ 64) × (f .«left_ones» + 1 < 2 ^ 64)
+unfolding fork-of size
+left-fits {w} {n} {f = f} b read =
+    by-fork-at
+    (λ (t : Tree). suc (size t) < 2 ^ 32 → (f .«left_total» + 1 < 2 ^ 64) × (f .«left_ones» + 1 < 2 ^ 64)) (b .at .tree) f
+    (b .at .site .rooted) read
+    (λ l r _ says few.
+    let left-total = ap (λ (g : Fork). g .«left_total») says in
+    let left-ones = ap (λ (g : Fork). g .«left_ones») says in
+    let most = count-size l in
+    (omega arith, omega arith)) (b .at .site .few)
 
-  -- the left child's total is within the tree's
-  pub left-within : f .«left_total» ≤ total
-  unfolding fork-of size
-  left-within =
-      by-fork-at (λ (t : Tree). size t ≡ total → f .«left_total» ≤ total) t f (q .site .rooted) read
-      (λ l r h s e. omega (arith, ap (λ (g : Fork). g .«left_total») s)) (q .total-is)
-
-  -- and with one mark more it fits a word, as do its strikes
-  pub left-fits : (f .«left_total» + 1 < 2 ^ 64) × (f .«left_ones» + 1 < 2 ^ 64)
-  unfolding fork-of size
-  left-fits =
-      by-fork-at (λ (t : Tree). suc (size t) < 2 ^ 32 → (f .«left_total» + 1 < 2 ^ 64) × (f .«left_ones» + 1 < 2 ^ 64)) t f (q .site .rooted) read
-      (λ l r h s few.
-      let total = ap (λ (g : Fork). g .«left_total») s in
-      let ones = ap (λ (g : Fork). g .«left_ones») s in
-      let most = count-size l in
-      (omega arith, omega arith)) (q .site .few)
-
--- what a step to the child that place i of a fork leads to says of it
+-- what a step to the child that the place leads to says of an insert
 record Leads (s : Step) (n i : ℕ) (l r : Tree) : Type 0 where
-  child-is : top (side (s .left) l r) ≡ s .child
-  total : size (side (s .left) l r) ≡ s .length
-  within : s .index ≤ s .length
   splits-same : splits i (fork n l r) ≡ splits (s .index) (side (s .left) l r)
   inserts : (b : Bool) (free : List ℕ) → let u : Tree = insert (s .index) b free (side (s .left) l r) in
       insert i b free (fork n l r) ≡ rebalance n (side (s .left) u l) (side (s .left) r u)
 
-leads : (s : Step) (f : Fork) (n i total : ℕ) (l r : Tree) → f ≡ fork-of l r → size (fork n l r) ≡ total → i ≤ total
-    → (i < f .«left_total» → s ≡ step-left f i) → (f .«left_total» ≤ i → s ≡ step-right f total i) → Leads s n i l r
-unfolding fork-of size insert
-leads s f n i total l r e z h p q =
-    by-ltb i (size l)
-    (λ _ k. rw (p (rw e k), e)
-    (record {
-      child-is = refl;
-      total = refl;
-      within = omega arith;
-      splits-same = splits-left i n l r k;
-      inserts = λ b free. rw (insert, lt-ltb i (size l) k);
-    }))
-    (λ _ k. rw (q (rw e k), e)
-    (record {
-      child-is = refl;
-      total = omega arith;
-      within = omega arith;
-      splits-same = splits-right i n l r k;
-      inserts = λ b free. rw (insert, le-ltb i (size l) k);
-    }))
+leads : {f : Fork} {total i : ℕ} {s : Step} (n : ℕ) (l r : Tree) → f ≡ fork-of l r → Toward f total i s → Leads s n i l r
+unfolding fork-of insert
+leads {i = i} n l r e toward =
+    by-step n l r e toward (λ (s : Step). Leads s n i l r)
+    (λ k. record { splits-same = splits-left i n l r k; inserts = λ b free. rw (insert, lt-ltb i (size l) k) })
+    (λ k. record { splits-same = splits-right i n l r k; inserts = λ b free. rw (insert, le-ltb i (size l) k) })
 
 -- the fork with one mark more says all of the trees afterwards but how they lean
 recounted : (left : Bool) (f : Fork) (i : ℕ) (b : Bool) (free : List ℕ) (l r : Tree) → f ≡ fork-of l r → i ≤ size (side left l r)
-    → let u : Tree = insert i b free (side left l r) in with-mark f left b ≡ fork-at-heights (height l) (height r) (side left u l) (side left r u)
+    → let u : Tree = insert i b free (side left l r) in
+    with-mark f left b ≡ fork-at-heights (height l) (height r) (side left u l) (side left r u)
 unfolding fork-of
 recounted true f i b free l r e h =
     let u : Tree = insert i b free l in
@@ -177,124 +140,67 @@ recounted false f i b free l r e h =
       balance = (height r + 2) - height l;
     })
 
--- the child that is changed, of the trees afterwards
-side-here : (left : Bool) (u l r : Tree) → side left (side left u l) (side left r u) ≡ u
-side-here true u l r = refl
-side-here false u l r = refl
-
--- A step from the fork f at n, which was read, to the child that the place leads to; the fork counts the mark now.
-pub record Stepped (w v : List ℕ) (n total index : ℕ) (bit : Bool) (f : Fork) (s : Step) : Type 0 where
-  pub read : node-at w n ≡ Node.Fork f
-  pub to-left : index < f .«left_total» → s ≡ step-left f index
-  pub to-right : f .«left_total» ≤ index → s ≡ step-right f total index
+-- a step from the fork f at n to the child that the place leads to; the fork counts the mark now
+pub record Counted (w v : List ℕ) (n total index : ℕ) (bit : Bool) (f : Fork) (s : Step) : Type 0 where
+  pub step : Stepped w n total index f s
   pub counts : Put w v n (Node.Fork (with-mark f (s .left) bit))
 
-pub stepped : {w v : List ℕ} {n total index : ℕ} {bit : Bool} {f : Fork} {s : Step} (g : Fork) → node-at w n ≡ Node.Fork f
-    → (index < f .«left_total» → s ≡ step-left f index) → (f .«left_total» ≤ index → s ≡ step-right f total index) → g ≡ with-mark f (s .left) bit
-    → v ≡ put w n (fork-cell g) → Stepped w v n total index bit f s
-stepped {w} {v} {n} {f = f} g read to-left to-right counted stored =
-    record { read = read; to-left = to-left; to-right = to-right; counts = rw (stored, ← counted) (put-fork w n g (fork-says w n f read .0)) }
+pub counted-here : {w v : List ℕ} {n total index : ℕ} {bit : Bool} {f : Fork} {s : Step} (g : Fork) → Stepped w n total index f s
+    → g ≡ with-mark f (s .left) bit → v ≡ put w n (fork-cell g) → Counted w v n total index bit f s
+counted-here {w} {v} {n} {f = f} g step counted stored =
+    record { step = step; counts = rw (stored, ← counted) (put-fork w n g (fork-says w n f (step .read) .0)) }
 
-module _ {w v : List ℕ} {n levels end head total index : ℕ} {bit : Bool} {f : Fork} {s : Step} (p : Stepped w v n total index bit f s) where
-  leads-here : (l r : Tree) (free : List ℕ) → ToInsert w n levels end head total index (fork n l r) free → f ≡ fork-of l r → Leads s n index l r
-  leads-here l r free q e = leads s f n index total l r e (q .total-is) (q .within) (p .to-left) (p .to-right)
+module _ {w v : List ℕ} {n levels head total index : ℕ} {bit : Bool} {f : Fork} {s : Step}
+    (p : Counted w v n total index bit f s) (b : ToInsert w n levels head total index) where
+  d : Down (b .at) index f s
+  d = down (b .at) (p .step)
 
-  child : (l r : Tree) (free : List ℕ) → ToInsert w n levels end head total index (fork n l r) free → Leads s n index l r
-      → ToInsert v (s .child) (levels - 1) end head (s .length) (s .index) (side (s .left) l r) free
-  child l r free q e =
+  -- the child that the place leads to, and the child with the mark
+  abbrev old : Tree
+  old = side (s .left) (d .l) (d .r)
+
+  abbrev new : Tree
+  new = insert (s .index) bit (b .at .free) old
+
+  way : Leads s n index (d .l) (d .r)
+  way = leads n (d .l) (d .r) (d .says) (p .step .toward)
+
+  in-child : s .index ≤ size old
+  in-child = omega (arith, d .child .up-to (b .within), d .child .total-is)
+
+  -- the mark can be put into it
+  pub to-child : ToInsert v (s .child) (levels - 1) head (s .length) (s .index)
+  to-child =
       record {
-        site = rw (← e .child-is) (site-below (s .left) l r free (q .site) (p .counts));
-        total-is = e .total;
-        within = e .within;
-        room = λ split. q .room (e .splits-same ∙ split);
+        at = child-stands (b .at) d (top-put (b .at) d (p .counts));
+        within = d .child .up-to (b .within);
+        room = λ split. b .room (rw (d .is) (way .splits-same ∙ split));
       }
 
-  -- the mark can be put into the child
-  pub insert-below-fork : (t : Tree) (free : List ℕ) → ToInsert w n levels end head total index t free
-      → (u : Tree) × ToInsert v (s .child) (levels - 1) end head (s .length) (s .index) u free
-  insert-below-fork t free q =
-      by-fork-at
-      (λ (t : Tree). ToInsert w n levels end head total index t free → (u : Tree) × ToInsert v (s .child) (levels - 1) end head (s .length) (s .index) u free)
-      t f (q .site .rooted) (p .read) (λ l r h e q. (side (s .left) l r, child l r free q (leads-here l r free q e))) q
+  module _ {v′ : List ℕ} {head′ : ℕ} {by : ℤ} (done : Inserted to-child v′ head′ by bit) where
+    changed : Changed w v′ n (b .at .end) head′ by (s .left) (d .l) (d .r) new (b .at .free) (rest (splits (s .index) old) (b .at .free))
+    unfolding to-child
+    changed =
+        changes (b .at) d
+        (insert-alters (s .index) bit (b .at .free) old in-child (to-child .room) (to-child .at .site .balanced))
+        (around-first (p .counts) done)
+        (first-stays (p .counts) done (top-apart (s .left) n (d .l) (d .r) (b .at .free) (d .site .once))
+        ∙ ap Node.Fork (recounted (s .left) f (s .index) bit (b .at .free) (d .l) (d .r) (d .says) in-child))
 
-  module _ {v′ : List ℕ} {head′ : ℕ} {by : ℤ} (free : List ℕ)
-      (done : (u : Tree) → ToInsert v (s .child) (levels - 1) end head (s .length) (s .index) u free
-      → After v v′ end head′ by u (insert (s .index) bit free u) free (rest (splits (s .index) u) free)) where
-    module _ (l r : Tree) (q : ToInsert w n levels end head total index (fork n l r) free) (e : f ≡ fork-of l r) where
-      way : Leads s n index l r
-      way = leads-here l r free q e
+    -- what the tree becomes, told by the child's edit
+    whole : {x : List ℕ} {grown : ℤ}
+        → After w x (b .at .end) head′ grown (fork n (d .l) (d .r)) (rebalance n (side (s .left) new (d .l)) (side (s .left) (d .r) new))
+        (b .at .free) (rest (splits (s .index) old) (b .at .free))
+        → Inserted b x head′ grown bit
+    whole a = rw (d .is, way .inserts bit (b .at .free), way .splits-same) a
 
-      abbrev old : Tree
-      old = side (s .left) l r
+    -- the fork says all but how it leans now; balanced again, it is the tree with the mark
+    pub insert-stale : ToLevel v′ n (s .left) by
+    insert-stale = to-level changed
 
-      abbrev new : Tree
-      new = insert (s .index) bit free old
+    pub insert-leveled : {x : List ℕ} {grown : ℤ} → Levels v′ x n (s .left) by grown → Inserted b x head′ grown bit
+    insert-leveled levels = whole (leveled changed levels)
 
-      abbrev left-over : List ℕ
-      left-over = rest (splits (s .index) old) free
-
-      below : After v v′ end head′ by old new free left-over
-      below = done old (child l r free q way)
-
-      in-child : s .index ≤ size old
-      in-child = omega (arith, way .within, way .total)
-
-      altered : Altered old new free left-over
-      altered =
-          insert-alters (s .index) bit free old in-child (λ split. q .room (way .splits-same ∙ split)) (child l r free q way .site .balanced)
-
-      around : Around w v′ n end head′ by old new free left-over
-      around = around-first (p .counts) below
-
-      says : node-at v′ n ≡ Node.Fork (fork-at-heights (height l) (height r) (side (s .left) new l) (side (s .left) r new))
-      says =
-          first-stays (p .counts) below (top-apart (s .left) n l r free (q .site .once))
-          ∙ ap Node.Fork (recounted (s .left) f (s .index) bit free l r e in-child)
-
-      told : Apart by (height (side (s .left) (side (s .left) new l) (side (s .left) r new))) (height old)
-      told = rw (side-here (s .left) new l r) (below .change)
-
-      -- what the tree becomes, told by the child's edit
-      whole : {x : List ℕ} {grown : ℤ} → After w x end head′ grown (fork n l r) (rebalance n (side (s .left) new l) (side (s .left) r new)) free left-over
-          → After w x end head′ grown (fork n l r) (insert index bit free (fork n l r)) free (rest (splits index (fork n l r)) free)
-      whole a = rw (way .inserts bit free, way .splits-same) a
-
-    module _ (t : Tree) (q : ToInsert w n levels end head total index t free) where
-      -- the fork says all but how it leans now
-      pub stale-below : (l : Tree) × (r : Tree) × (was : ℕ) × Stale v′ n (s .left) was l r × Apart by (height (side (s .left) l r)) was
-      stale-below =
-          by-fork-at
-          (λ (t : Tree). ToInsert w n levels end head total index t free
-          → (l : Tree) × (r : Tree) × (was : ℕ) × Stale v′ n (s .left) was l r × Apart by (height (side (s .left) l r)) was)
-          t f (q .site .rooted) (p .read)
-          (λ l r h e q. (
-            side (s .left) (new l r q e) l,
-            side (s .left) r (new l r q e),
-            height (side (s .left) l r),
-            stale (s .left) l r (new l r q e) free _ (q .site) (altered l r q e) (around l r q e) (says l r q e),
-            told l r q e,
-          )) q
-
-      -- balanced again, it is the tree with the mark
-      pub leveled-below : {x : List ℕ} {grown : ℤ}
-          → ((l r : Tree) (was : ℕ) → Stale v′ n (s .left) was l r → Apart by (height (side (s .left) l r)) was → Leveled v′ x n (s .left) was l r grown)
-          → After w x end head′ grown t (insert index bit free t) free (rest (splits index t) free)
-      leveled-below {x} {grown} level =
-          by-fork-at
-          (λ (t : Tree). ToInsert w n levels end head total index t free → After w x end head′ grown t (insert index bit free t) free (rest (splits index t) free))
-          t f (q .site .rooted) (p .read)
-          (λ l r h e q.
-          let stands = stale (s .left) l r (new l r q e) free _ (q .site) (altered l r q e) (around l r q e) (says l r q e) in
-          whole l r q e
-          (after-leveled (s .left) l r (new l r q e) free _ (q .site) (altered l r q e) (around l r q e) (says l r q e) (level _ _ _ stands (told l r q e)))) q
-
-      -- so it is where the child has kept its height
-      pub level-below : by ≡ pos 0 → After w v′ end head′ (pos 0) t (insert index bit free t) free (rest (splits index t) free)
-      level-below zero =
-          by-fork-at
-          (λ (t : Tree). ToInsert w n levels end head total index t free → After w v′ end head′ (pos 0) t (insert index bit free t) free (rest (splits index t) free))
-          t f (q .site .rooted) (p .read)
-          (λ l r h e q.
-          let same : Apart (pos 0) (height (new l r q e)) (height (side (s .left) l r)) = rw zero at (below l r q e .change) in
-          whole l r q e
-          (after-level (s .left) l r (new l r q e) free _ (q .site) (altered l r q e) (around l r q e) (says l r q e) (omega (arith, same .told)))) q
+    -- so it is where the child has kept its height
+    pub insert-level : by ≡ pos 0 → Inserted b v′ head′ (pos 0) bit
+    insert-level zero = whole (level changed zero)

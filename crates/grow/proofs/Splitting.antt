@@ -1,15 +1,14 @@
--- A leaf that is put at n, and one that is split there: its halves stand at the first two free numbers, which are none of the other's, nor n.
-use Prim.Native.Nat.{ℕ, _-_, _≤_, _<_}
+-- A leaf that is put at n, and one that is split there: its halves stand at the first two free numbers, which are none
+-- of the other's, nor n.
+use Prim.Native.Nat.{ℕ, _≤_, _<_}
 use native.Mathlib.Omega.{arith}
 use mathlib.Core.Path.{_≡_, refl, sym, ap, _∙_}
 use mathlib.Core.Bool.{Bool, true}
 use mathlib.Core.List.{List, [], _∷_, List·Memᴰ·head, List·Memᴰ·tail, Memᴰ·cast}
 use borrow.Author.Tests.{le-leb, lt-leb}
-use lib.Dec.{leb}
 use lib.IntN.{ℤ, pos}
 use lib.ListN.{length, take, drop}
 use lib.Seq.{take-all, length-take-le}
-use Rattle.model.specs.Edit.{settle}
 use Rattle.model.specs.Marks.{count, rank}
 use Rattle.model.specs.Sound.{Distinct}
 use Rattle.model.specs.Tree as Tree
@@ -27,29 +26,30 @@ use Rattle.pool.proofs.Cells.{put-leaf, put-fork, put-keeps, free-says}
 use Rattle.pool.proofs.Standing.{chained-same}
 use Rattle.turn.specs.Apart.{Apart}
 use Rattle.turn.specs.Sites.{After}
-use Rattle.grow.specs.Inserting.{ToSettle, rest}
+use Rattle.turn.proofs.Differences.{both, none, same, some}
+use Rattle.grow.specs.Inserting.{Settled, ToSettle}
 
 -- ---- a leaf that does not split
 
-pub settled : {w w′ : List ℕ} {n end head : ℕ} {leaf : Leaf} {total : ℕ} (xs : List Bool) (free : List ℕ) → ToSettle w n end head leaf total xs free → total < 128
-    → w′ ≡ put w n (leaf-cell leaf) → After w w′ end head (pos 0) (Tree.leaf n []) (settle n xs free) free (rest (leb 128 total) free)
+pub settled : {w w′ : List ℕ} {n head : ℕ} {leaf : Leaf} {total : ℕ} (b : ToSettle w n head leaf total) → total < 128
+    → w′ ≡ put w n (leaf-cell leaf) → Settled b w′ head (pos 0)
 unfolding numbers height
-settled {w} {w′} {n} {end} {head} {leaf} {total} xs free s small e =
-    let p : Put w w′ n (Node.Leaf leaf) = rw e (put-leaf w n leaf (s .there)) in
-    let same = s .total-is in
+settled {w} {w′} {n} {head} {leaf} {total} b small e =
+    let p : Put w w′ n (Node.Leaf leaf) = rw e (put-leaf w n leaf (b .there)) in
+    let same = b .total-is in
     rw (lt-leb 128 total small)
-    (settle-cases (λ (t : Tree). After w w′ end head (pos 0) (Tree.leaf n []) t free free) n xs free
+    (settle-cases (λ (t : Tree). After w w′ (b .end) head (pos 0) (Tree.leaf n []) t (b .free) (b .free)) n (b .marks) (b .free)
     (λ full. absurd (omega arith))
     (λ _. record {
       edited =
           record {
             size = p .size;
-            holds = p .here ∙ ap Node.Leaf (s .held);
+            holds = p .here ∙ ap Node.Leaf (b .held);
             else = λ k out. p .else k (λ same. out (List·Memᴰ·head same));
           };
-      chained = chained-same w w′ end free (λ k m. p .else k (λ same. s .once .0 (Memᴰ·cast (sym same) m))) (s .chained);
-      first = s .first;
-      change = record { told = omega arith };
+      chained = chained-same w w′ (b .end) (b .free) (λ k m. p .else k (λ same. b .once .0 (Memᴰ·cast (sym same) m))) (b .chained);
+      first = b .first;
+      change = none 0;
     }))
 
 -- ---- a leaf that splits
@@ -88,7 +88,7 @@ module _ {w w₁ w₂ w₃ : List ℕ} {n a b : ℕ} (xs : List Bool) (cs : List
             (λ e. once .1 .0 (List·Memᴰ·tail (Memᴰ·cast (sym e) m)))
             (λ e. once .1 .1 .0 (Memᴰ·cast (sym e) m))) chained;
         first = refl;
-        change = record { told = omega arith };
+        change = same (pos 1) _ _ (some 1) (omega arith);
       }
 
 -- the strikes of the left half
@@ -105,47 +105,92 @@ unfolding fork-of top size marks height
 half-fork xs a b f e x y z o s i =
     record { left = x i; right = y i; «left_total» = (z ∙ sym (length-take-le 64 xs (omega arith))) i; «left_ones» = o i; balance = s i }
 
--- what the steps of the split leave
-pub split-done : {w w₁ w₂ w₃ : List ℕ} {n end head b head′ : ℕ} {leaf : Leaf} {h : Halves} {f : Fork} (xs : List Bool) (free : List ℕ)
-    → ToSettle w n end head leaf 128 xs free → b ≡ next-in (nodes-in w) (node-at w head) → head′ ≡ next-in (nodes-in w) (node-at w b)
-    → h ≡ halves-of (bits-of leaf) → w₁ ≡ put w head (leaf-cell (h .left)) → w₂ ≡ put w₁ b (leaf-cell (h .right)) → f .left ≡ head → f .right ≡ b
-    → f .«left_total» ≡ 64 → f .«left_ones» ≡ rank true 64 (bits-of (h .left)) → Apart (pos 0) (f .balance) 2 → w₃ ≡ put w₂ n (fork-cell f)
-    → After w w₃ end head′ (pos 1) (Tree.leaf n []) (settle n xs free) free (rest true free)
-unfolding first-of halves-of
-split-done xs [] s e₁ e₂ h p q fl fr ft fo fb o = absurd (let z = s .room (omega (arith, s .total-is)) in omega arith)
-split-done xs (a ∷ []) s e₁ e₂ h p q fl fr ft fo fb o = absurd (let z = s .room (omega (arith, s .total-is)) in omega arith)
-split-done {w} {w₁} {w₂} {w₃} {n} {end} {head} {b} {head′} {leaf} {h} {f} xs (a ∷ c ∷ cs) s e₁ e₂ he p q fl fr ft fo fb o =
-    let at : a ≡ head = s .first in
-    let chain = s .chained in
-    let after : ℕ → ℕ = λ k. next-in (nodes-in w) (node-at w k) in
-    let next : b ≡ c = e₁ ∙ ap after (sym at) ∙ ap (next-in (nodes-in w)) (chain .0) in
-    let past : head′ ≡ first-of end cs = e₂ ∙ ap after next ∙ ap (next-in (nodes-in w)) (chain .1 .0) in
-    let halves : h ≡ halves-of xs = he ∙ ap (λ (x : Leaf). halves-of (bits-of x)) (s .held) ∙ split-held xs (s .total-is) in
-    let left : h .left ≡ leaf-of (take 64 xs) = ap (λ (x : Halves). x .left) halves in
-    let right : h .right ≡ leaf-of (drop 64 xs) = ap (λ (x : Halves). x .right) halves in
-    let over : f ≡ fork-of (Tree.leaf a (take 64 xs)) (Tree.leaf c (drop 64 xs)) =
-    half-fork xs a c f (s .total-is) (fl ∙ sym at) (fr ∙ next) ft (fo ∙ ap (λ (x : Leaf). rank true 64 (bits-of x)) left ∙ half-strikes xs (s .total-is))
-    (omega (arith, fb .told)) in
-    let first : Put w w₁ a (Node.Leaf (leaf-of (take 64 xs))) =
-    rw (p, ← at, left) (put-leaf w a (leaf-of (take 64 xs)) (free-says w a _ (chain .0) .0)) in
-    let second : Put w₁ w₂ c (Node.Leaf (leaf-of (drop 64 xs))) =
-    rw (q, next, right) (put-leaf w₁ c (leaf-of (drop 64 xs)) (rw (put-keeps first) (free-says w c _ (chain .1 .0) .0))) in
-    let third : Put w₂ w₃ n (Node.Fork (fork-of (Tree.leaf a (take 64 xs)) (Tree.leaf c (drop 64 xs)))) =
-    rw (o, ← over) (put-fork w₂ n f (rw (put-keeps second, put-keeps first) (s .there))) in
-    settle-cases (λ (t : Tree). After w w₃ end head′ (pos 1) (Tree.leaf n []) t (a ∷ c ∷ cs) cs) n xs (a ∷ c ∷ cs)
-    (λ _. rw past (split-after xs cs (s .once) first second third end (chain .1 .1)))
-    (λ small. absurd (omega (arith, s .total-is)))
+-- the chain of a leaf that splits: its first two numbers, and the rest
+pub record Two (w : List ℕ) (end head : ℕ) (free : List ℕ) : Type 0 where
+  pub second : ℕ
+  pub others : List ℕ
+  pub is : free ≡ head ∷ second ∷ others
+  pub first-free : node-at w head ≡ Node.Free second
+  pub second-free : node-at w second ≡ Node.Free (first-of end others)
+
+two : {w : List ℕ} {end head : ℕ} (free : List ℕ) → 2 ≤ length free → Chained w end free → first-of end free ≡ head → Two w end head free
+unfolding first-of
+two [] h c e = absurd (omega arith)
+two (a ∷ []) h c e = absurd (omega arith)
+two {w} (a ∷ b ∷ cs) h c e =
+    record {
+      second = b;
+      others = cs;
+      is = ap (λ (k : ℕ). k ∷ b ∷ cs) e;
+      first-free = ap (node-at w) (sym e) ∙ c .0;
+      second-free = c .1 .0;
+    }
+
+module _ {w : List ℕ} {n head : ℕ} {leaf : Leaf} (t : ToSettle w n head leaf 128) where
+  pub split-two : Two w (t .end) head (t .free)
+  split-two = two (t .free) (t .room (omega (arith, t .total-is))) (t .chained) (t .first)
+
+  -- the number after the first is free too
+  pub split-next : {b : ℕ} → b ≡ next-in (nodes-in w) (node-at w head) → (k : ℕ) × (node-at w b ≡ Node.Free k)
+  split-next e =
+      (_, ap (node-at w) (e ∙ ap (next-in (nodes-in w)) (split-two .first-free)) ∙ split-two .second-free)
+
+  -- what the steps of the split leave
+  pub split-done : {w₁ w₂ w₃ : List ℕ} {b head′ : ℕ} {h : Halves} {f : Fork}
+      → b ≡ next-in (nodes-in w) (node-at w head) → head′ ≡ next-in (nodes-in w) (node-at w b) → h ≡ halves-of (bits-of leaf)
+      → w₁ ≡ put w head (leaf-cell (h .left)) → w₂ ≡ put w₁ b (leaf-cell (h .right)) → f .left ≡ head → f .right ≡ b
+      → f .«left_total» ≡ 64 → f .«left_ones» ≡ rank true 64 (bits-of (h .left)) → Apart (pos 0) (f .balance) 2
+      → w₃ ≡ put w₂ n (fork-cell f) → Settled t w₃ head′ (pos 1)
+  unfolding halves-of
+  split-done {w₁} {w₂} {w₃} {b} {head′} {h} {f} e₁ e₂ he p q fl fr ft fo fb o =
+      let k = split-two in
+      let xs : List Bool = t .marks in
+      let cs : List ℕ = k .others in
+      let once : Distinct (n ∷ head ∷ k .second ∷ cs) = rw (k .is) at (t .once) in
+      let chain : Chained w (t .end) (head ∷ k .second ∷ cs) = rw (k .is) at (t .chained) in
+      let next : b ≡ k .second = e₁ ∙ ap (next-in (nodes-in w)) (k .first-free) in
+      let past : head′ ≡ first-of (t .end) cs =
+      e₂ ∙ ap (λ (i : ℕ). next-in (nodes-in w) (node-at w i)) next ∙ ap (next-in (nodes-in w)) (k .second-free) in
+      let halves : h ≡ halves-of xs = he ∙ ap (λ (x : Leaf). halves-of (bits-of x)) (t .held) ∙ split-held xs (t .total-is) in
+      let left : h .left ≡ leaf-of (take 64 xs) = ap (λ (x : Halves). x .left) halves in
+      let right : h .right ≡ leaf-of (drop 64 xs) = ap (λ (x : Halves). x .right) halves in
+      let ones = fo ∙ ap (λ (x : Leaf). rank true 64 (bits-of x)) left ∙ half-strikes xs (t .total-is) in
+      let over : f ≡ fork-of (Tree.leaf head (take 64 xs)) (Tree.leaf (k .second) (drop 64 xs)) =
+      half-fork xs head (k .second) f (t .total-is) fl (fr ∙ next) ft ones (omega (arith, both (pos 0) fb (none 2))) in
+      let first : Put w w₁ head (Node.Leaf (leaf-of (take 64 xs))) =
+      rw (p, left) (put-leaf w head (leaf-of (take 64 xs)) (free-says w head _ (k .first-free) .0)) in
+      let second : Put w₁ w₂ (k .second) (Node.Leaf (leaf-of (drop 64 xs))) =
+      rw (q, next, right)
+      (put-leaf w₁ (k .second) (leaf-of (drop 64 xs)) (rw (put-keeps first) (free-says w (k .second) _ (k .second-free) .0))) in
+      let third : Put w₂ w₃ n (Node.Fork (fork-of (Tree.leaf head (take 64 xs)) (Tree.leaf (k .second) (drop 64 xs)))) =
+      rw (o, ← over) (put-fork w₂ n f (rw (put-keeps second, put-keeps first) (t .there))) in
+      settle-cases (λ (u : Tree). After w w₃ (t .end) head′ (pos 1) (Tree.leaf n []) u (t .free) (drop 2 (t .free))) n xs (t .free)
+      (λ _. rw (k .is, past) (split-after xs cs once first second third (t .end) (chain .1 .1)))
+      (λ small. absurd (omega (arith, t .total-is)))
 
 -- ---- either
 
-module _ {w : List ℕ} {n end head total : ℕ} {leaf : Leaf} (xs : List Bool) (free : List ℕ) (s : ToSettle w n end head leaf total xs free) (full : 128 ≤ total) where
+module _ {w : List ℕ} {n head total : ℕ} {leaf : Leaf} (b : ToSettle w n head leaf total) (full : 128 ≤ total) where
   -- a leaf that is too full has 128 marks
   full-total : total ≡ 128
-  full-total = omega (arith, s .total-is, s .most)
+  full-total = omega (arith, b .total-is, b .most)
 
-  pub full-now : ToSettle w n end head leaf 128 xs free
-  full-now = rw full-total at s
+  pub full-now : ToSettle w n head leaf 128
+  full-now =
+      record {
+        end = b .end;
+        marks = b .marks;
+        free = b .free;
+        held = b .held;
+        total-is = b .total-is ∙ full-total;
+        most = b .most;
+        there = b .there;
+        once = b .once;
+        chained = b .chained;
+        first = b .first;
+        room = b .room;
+      }
 
-  pub full-split : {w′ : List ℕ} {head′ : ℕ} {by : ℤ} {t t′ : Tree} → After w w′ end head′ by t t′ free (rest true free)
-      → After w w′ end head′ by t t′ free (rest (leb 128 total) free)
+  pub full-split : {w′ : List ℕ} {head′ : ℕ} {by : ℤ} → Settled full-now w′ head′ by → Settled b w′ head′ by
+  unfolding full-now
   full-split a = rw (le-leb 128 total full) a

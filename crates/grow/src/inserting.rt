@@ -1,21 +1,15 @@
 // Putting a mark into a tree, by recursion on node numbers. The forks on the way count the mark as they are passed, so
 // that there is nothing to do on the way back unless a leaf was split.
-ghost use mathlib.Core.Bool.{Bool, not, true};
-ghost use mathlib.Core.List.{[], List};
+ghost use mathlib.Core.Bool.{not};
 ghost use mathlib.Core.Path.{_≡_};
-ghost use Prim.Native.Nat.{ℕ, _+_, _^_, _<_};
-ghost use lib.Dec.{leb};
+ghost use Prim.Native.Nat.{_+_, _^_, _<_};
 ghost use lib.IntN.{pos};
-ghost use Rattle.model.specs.Edit as Edit;
-ghost use Rattle.model.specs.Pool.{Pool, full};
-ghost use Rattle.model.specs.Tree as Tree;
-ghost use Rattle.model.specs.Tree.{Tree};
-ghost use Rattle.turn.specs.Sites.{After};
-ghost use Rattle.grow.specs.Inserting.{Inserted, ToAsk, ToInsert, ToInsertInto, ToSettle, rest, with-mark};
+ghost use Rattle.model.specs.Pool.{full};
+ghost use Rattle.grow.specs.Inserting.{Inserted, InsertedInto, Settled, ToAsk, ToInsert, ToInsertInto, ToSettle, with-mark};
 use bits::Leaf;
 use pool::Chain;
 use pool::Fork;
-use pool::Node;
+use pool::TreeNode;
 use pool::leaf_or_fork;
 use pool::next_free;
 use pool::set_fork;
@@ -37,8 +31,8 @@ const SPLIT_NODES: u64 = 2;
 // Whether an insert at a place has room: two nodes may be taken, or its leaf does not split. Only where they may not
 // the leaf is looked for.
 pub fn room(nodes: &[u64], root: u64, length: u64, may: bool, index: u64) -> bool
-    requires { ⌜ ((p : Pool) × ToAsk (now nodes) root length index p) ⌝ }
-    ensures { λ r. ⌜ ((p : Pool) → ToAsk (now (nodes .entry)) root length index p → r ≡ not (full may index p)) ⌝ }
+    requires { ⌜ ToAsk (now nodes) root length index ⌝ }
+    ensures { λ r. ⌜ ((b : ToAsk (now (nodes .entry)) root length index) → r ≡ not (full may index (b .pool))) ⌝ }
 {
     if may {
         return true;
@@ -48,8 +42,9 @@ pub fn room(nodes: &[u64], root: u64, length: u64, may: bool, index: u64) -> boo
 
 // Puts the halves of a full leaf at the first two free numbers, and the fork over them at n.
 fn split(nodes: &mut [u64], head: &mut u64, n: u64, leaf: Leaf)
-    requires { ⌜ ((end : ℕ) × (xs : List Bool) × (free : List ℕ) × ToSettle (now nodes) n end (now head) leaf 128 xs free) ⌝ }
-    ensures { λ _. ⌜ ((end : ℕ) (xs : List Bool) (free : List ℕ) → ToSettle (now (nodes .entry)) n end (now (head .entry)) leaf 128 xs free → After (now (nodes .entry)) (now (nodes .exit)) end (now (head .exit)) (pos 1) (Tree.leaf n []) (Edit.settle n xs free) free (rest true free)) ⌝ }
+    requires { ⌜ ToSettle (now nodes) n (now head) leaf 128 ⌝ }
+    ensures { λ _. ⌜ ((b : ToSettle (now (nodes .entry)) n (now (head .entry)) leaf 128)
+        → Settled b (now (nodes .exit)) (now (head .exit)) (pos 1)) ⌝ }
 {
     let first = *head;
     let second = next_free(nodes, first);
@@ -74,8 +69,9 @@ fn split(nodes: &mut [u64], head: &mut u64, n: u64, leaf: Leaf)
 
 // Puts a leaf of so many marks at n, split where they are too many, and says by how much the tree has grown in height.
 fn settle(nodes: &mut [u64], head: &mut u64, n: u64, leaf: Leaf, size: u64) -> i64
-    requires { ⌜ ((end : ℕ) × (xs : List Bool) × (free : List ℕ) × ToSettle (now nodes) n end (now head) leaf size xs free) ⌝ }
-    ensures { λ g. ⌜ ((end : ℕ) (xs : List Bool) (free : List ℕ) → ToSettle (now (nodes .entry)) n end (now (head .entry)) leaf size xs free → After (now (nodes .entry)) (now (nodes .exit)) end (now (head .exit)) g (Tree.leaf n []) (Edit.settle n xs free) free (rest (leb 128 size) free)) ⌝ }
+    requires { ⌜ ToSettle (now nodes) n (now head) leaf size ⌝ }
+    ensures { λ g. ⌜ ((b : ToSettle (now (nodes .entry)) n (now (head .entry)) leaf size)
+        → Settled b (now (nodes .exit)) (now (head .exit)) g) ⌝ }
 {
     if size < LEAF_SPLIT {
         set_leaf(nodes, n, leaf);
@@ -110,12 +106,13 @@ fn insert_below(
     bit: bool,
     levels: u64,
 ) -> i64
-    requires { ⌜ ((end : ℕ) × (t : Tree) × (free : List ℕ) × ToInsert (now nodes) n levels end (now head) length index t free) ⌝ }
-    ensures { λ g. ⌜ ((end : ℕ) (t : Tree) (free : List ℕ) → ToInsert (now (nodes .entry)) n levels end (now (head .entry)) length index t free → After (now (nodes .entry)) (now (nodes .exit)) end (now (head .exit)) g t (Edit.insert index bit free t) free (rest (Edit.splits index t) free)) ⌝ }
+    requires { ⌜ ToInsert (now nodes) n levels (now head) length index ⌝ }
+    ensures { λ g. ⌜ ((b : ToInsert (now (nodes .entry)) n levels (now (head .entry)) length index)
+        → Inserted b (now (nodes .exit)) (now (head .exit)) g bit) ⌝ }
 {
     match leaf_or_fork(nodes, n) {
-        Node::Leaf(leaf) => settle(nodes, head, n, leaf.insert(index, bit), length + 1),
-        Node::Fork(fork) => {
+        TreeNode::Leaf(leaf) => settle(nodes, head, n, leaf.insert(index, bit), length + 1),
+        TreeNode::Fork(fork) => {
             let step = toward(fork, length, index);
             set_fork(nodes, n, counted(fork, step.left, bit));
             let change = insert_below(
@@ -132,8 +129,6 @@ fn insert_below(
             }
             child_changed(nodes, n, step.left, change)
         }
-        Node::Free(_) => 0,
-        Node::Broken => 0,
     }
 }
 
@@ -147,8 +142,9 @@ pub fn insert(
     index: u64,
     bit: bool,
 ) -> Chain
-    requires { ⌜ ((end : ℕ) × (t : Tree) × (free : List ℕ) × ToInsertInto (now nodes) root end chain length index t free) ⌝ }
-    ensures { λ r. ⌜ ((end : ℕ) (t : Tree) (free : List ℕ) → ToInsertInto (now (nodes .entry)) root end chain length index t free → Inserted (now (nodes .entry)) (now (nodes .exit)) end r t (Edit.insert index bit free t) free (rest (Edit.splits index t) free)) ⌝ }
+    requires { ⌜ ToInsertInto (now nodes) root chain length index ⌝ }
+    ensures { λ r. ⌜ ((b : ToInsertInto (now (nodes .entry)) root chain length index)
+        → InsertedInto b (now (nodes .exit)) r bit) ⌝ }
 {
     let mut head = chain.first;
     insert_below(nodes, &mut head, root, length, index, bit, LEVELS);

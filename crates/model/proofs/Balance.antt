@@ -48,13 +48,15 @@ first-turn-right (fork n (fork k a c) e) =
     leaning-right-cases (λ (t : Tree). height t ≡ height (fork n (fork k a c) e)) n (fork k a c) e (λ leans. omega arith) (λ _. refl)
 
 -- a left child that leans right is turned left, and then its parent right
-double-right : (n m : ℕ) (a c r : Tree) → Balanced (fork m a c) → Balanced r → height (fork m a c) ≡ height r + 2 → height c ≡ height a + 1 → Grown (height (fork m a c)) (turn-right (fork n (turn-left (fork m a c)) r))
+double-right : (n m : ℕ) (a c r : Tree) → Balanced (fork m a c) → Balanced r → height (fork m a c) ≡ height r + 2 → height c ≡ height a + 1
+    → Grown (height (fork m a c)) (turn-right (fork n (turn-left (fork m a c)) r))
 unfolding height turn-right turn-left
 double-right n m a (leaf k xs) r bl br h e = absurd (omega arith)
 double-right n m a (fork k c d) r bl br h e = search arith
 
 -- the mirror image
-double-left : (n m : ℕ) (l c a : Tree) → Balanced l → Balanced (fork m c a) → height (fork m c a) ≡ height l + 2 → height c ≡ height a + 1 → Grown (height (fork m c a)) (turn-left (fork n l (turn-right (fork m c a))))
+double-left : (n m : ℕ) (l c a : Tree) → Balanced l → Balanced (fork m c a) → height (fork m c a) ≡ height l + 2 → height c ≡ height a + 1
+    → Grown (height (fork m c a)) (turn-left (fork n l (turn-right (fork m c a))))
 unfolding height turn-right turn-left
 double-left n m l (leaf k xs) a bl br h e = absurd (omega arith)
 double-left n m l (fork k c d) a bl br h e = search arith
@@ -78,7 +80,8 @@ turned-left n l (fork m c a) bl br h =
     (λ stands. search arith)
 
 -- balancing two children that differ by two levels at most
-pub rebalance-balanced : (n : ℕ) (l r : Tree) → Balanced l → Balanced r → height l ≤ height r + 2 → height r ≤ height l + 2 → Rebalanced l r (rebalance n l r)
+pub rebalance-balanced : (n : ℕ) (l r : Tree) → Balanced l → Balanced r → height l ≤ height r + 2 → height r ≤ height l + 2
+    → Rebalanced l r (rebalance n l r)
 unfolding height
 rebalance-balanced n l r bl br p q =
     rebalance-cases (Rebalanced l r) n l r
@@ -88,7 +91,8 @@ rebalance-balanced n l r bl br p q =
 
 -- children that differ by one level at most are left as they are
 pub rebalance-level : (n : ℕ) (l r : Tree) → height l ≤ suc (height r) → height r ≤ suc (height l) → rebalance n l r ≡ fork n l r
-rebalance-level n l r p q = rebalance-cases (λ (t : Tree). t ≡ fork n l r) n l r (λ high. absurd (omega arith)) (λ high. absurd (omega arith)) (λ _ _. refl)
+rebalance-level n l r p q =
+    rebalance-cases (λ (t : Tree). t ≡ fork n l r) n l r (λ high. absurd (omega arith)) (λ high. absurd (omega arith)) (λ _ _. refl)
 
 -- ---- insert
 

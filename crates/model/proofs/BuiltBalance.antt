@@ -33,7 +33,8 @@ round-level : (n h : ℕ) (r l : Tree) (more : List Tree) → Level h (r ∷ l �
 unfolding round height
 round-level n h r l [] p = search arith
 round-level n h r l (odd ∷ []) p = search arith
-round-level n h r l (s ∷ t ∷ more) p = level-front (suc h) (fork n l r) (round (suc n) (s ∷ t ∷ more)) (search arith) (round-level (suc n) h s t more (p .1 .1))
+round-level n h r l (s ∷ t ∷ more) p =
+    level-front (suc h) (fork n l r) (round (suc n) (s ∷ t ∷ more)) (search arith) (round-level (suc n) h s t more (p .1 .1))
 
 -- some height at which the trees are level: a round keeps it that there is one
 round-levels : (n : ℕ) (ts : List Tree) → ((h : ℕ) × Level h ts) → (h : ℕ) × Level h (round n ts)
@@ -50,4 +51,6 @@ leaves-level n (suc k) xs seen p = leaves-level (suc n) k (drop leaf-built xs) _
 
 -- a built tree is balanced
 pub build-balanced : (xs : List Bool) → Balanced (build xs)
-build-balanced xs = build-keeps (λ (_ : ℕ) (ts : List Tree). (h : ℕ) × Level h ts) round-levels xs (zero, leaves-level zero (leaf-count (length xs)) xs [] tt) .1 .1 .balanced
+build-balanced xs =
+    build-keeps (λ (_ : ℕ) (ts : List Tree). (h : ℕ) × Level h ts) round-levels xs
+    (zero, leaves-level zero (leaf-count (length xs)) xs [] tt) .1 .1 .balanced

@@ -48,4 +48,5 @@ round-marks n (r ∷ l ∷ s ∷ t ∷ more) = simp (round-marks (suc n) (s ∷ 
 pub build-marks : (xs : List Bool) → marks (build xs) ≡ xs
 unfolding marks-backward
 build-marks xs =
-    build-keeps (λ (_ : ℕ) (ts : List Tree). marks-backward ts ≡ xs) (λ n ts p. round-marks n ts ∙ p) xs (reversed-marks _ [] ∙ leaves-marks zero _ xs (leaf-count-covers (length xs))) .1
+    build-keeps (λ (_ : ℕ) (ts : List Tree). marks-backward ts ≡ xs) (λ n ts p. round-marks n ts ∙ p) xs
+    (reversed-marks _ [] ∙ leaves-marks zero _ xs (leaf-count-covers (length xs))) .1

@@ -26,7 +26,8 @@ round-row least n (r ∷ l ∷ odd ∷ []) p = search
 round-row least n (r ∷ l ∷ s ∷ t ∷ more) p = ((p .1 .0, p .0), round-row leaf-least (suc n) (s ∷ t ∷ more) (p .1 .1))
 
 -- the leaves, the last of them first, are a row
-leaves-row : (n k : ℕ) (xs : List Bool) (seen : List Tree) → k * leaf-built < length xs → length xs ≤ suc k * leaf-built → Row leaf-least seen → Row 1 (reverseAux (built-leaves n (suc k) xs) seen)
+leaves-row : (n k : ℕ) (xs : List Bool) (seen : List Tree) → k * leaf-built < length xs → length xs ≤ suc k * leaf-built
+    → Row leaf-least seen → Row 1 (reverseAux (built-leaves n (suc k) xs) seen)
 unfolding built-leaves
 leaves-row n zero xs seen some few p = (simp (length-take leaf-built xs) (omega arith), p)
 leaves-row n (suc k) xs seen some few p =
@@ -38,4 +39,5 @@ pub build-whole : (xs : List Bool) → Whole (build xs)
 unfolding build rounds leaf-count built-leaves round foremost
 build-whole [] = omega arith
 build-whole (x ∷ xs) =
-    sized-whole (build (x ∷ xs)) (build-keeps (λ (_ : ℕ). Row 1) (round-row 1) (x ∷ xs) (leaves-row zero (length xs / leaf-built) (x ∷ xs) [] (omega arith) (omega arith) tt) .1 .0)
+    sized-whole (build (x ∷ xs)) (build-keeps (λ (_ : ℕ). Row 1) (round-row 1) (x ∷ xs)
+    (leaves-row zero (length xs / leaf-built) (x ∷ xs) [] (omega arith) (omega arith) tt) .1 .0)

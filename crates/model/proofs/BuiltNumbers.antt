@@ -26,13 +26,15 @@ all-weigh w [] = zero
 all-weigh w (t ∷ ts) = weight w t + all-weigh w ts
 
 -- the leaves have the first numbers
-leaves-weigh : (w : ℕ → ℕ) (n k : ℕ) (xs : List Bool) (seen : List Tree) → all-weigh w (reverseAux (built-leaves n k xs) seen) ≡ weigh w (numbers-from n k) + all-weigh w seen
+leaves-weigh : (w : ℕ → ℕ) (n k : ℕ) (xs : List Bool) (seen : List Tree)
+    → all-weigh w (reverseAux (built-leaves n k xs) seen) ≡ weigh w (numbers-from n k) + all-weigh w seen
 unfolding all-weigh built-leaves numbers-from weigh weight
 leaves-weigh w n zero xs seen = omega arith
 leaves-weigh w n (suc k) xs seen = omega (arith, leaves-weigh w (suc n) k (drop leaf-built xs) (leaf n (take leaf-built xs) ∷ seen))
 
 -- a round takes a number for each tree that it saves
-round-weigh : (w : ℕ → ℕ) (n : ℕ) (ts : List Tree) → all-weigh w (round n ts) ≡ all-weigh w ts + weigh w (numbers-from n (length ts - length (round n ts)))
+round-weigh : (w : ℕ → ℕ) (n : ℕ) (ts : List Tree)
+    → all-weigh w (round n ts) ≡ all-weigh w ts + weigh w (numbers-from n (length ts - length (round n ts)))
 unfolding all-weigh round numbers-from weigh weight
 round-weigh w n [] = omega arith
 round-weigh w n (t ∷ []) = omega arith
@@ -40,7 +42,8 @@ round-weigh w n (r ∷ l ∷ []) = omega arith
 round-weigh w n (r ∷ l ∷ odd ∷ []) = omega arith
 round-weigh w n (r ∷ l ∷ s ∷ t ∷ more) =
     let rest : List Tree = s ∷ t ∷ more in
-    let e : suc (suc (length rest)) - suc (length (round (suc n) rest)) ≡ suc (length rest - length (round (suc n) rest)) = omega (arith, round-most (suc n) rest) in
+    let e : suc (suc (length rest)) - suc (length (round (suc n) rest)) ≡ suc (length rest - length (round (suc n) rest)) =
+    omega (arith, round-most (suc n) rest) in
     rw e (omega (arith, round-weigh w (suc n) (s ∷ t ∷ more)))
 
 -- what the rounds keep, so many leaves having been made: the trees have the numbers below n, and n and the trees make twice the leaves
@@ -64,7 +67,8 @@ unfolding nodes-for all-weigh
 build-numbers xs w =
     let k : ℕ = leaf-count (length xs) in
     let e : length (reverse (built-leaves zero k xs)) ≡ k = simp (length-reverse, built-leaves-length) in
-    let start : Numbered k k (reverse (built-leaves zero k xs)) = record { twice = omega arith; below = λ w. omega (arith, leaves-weigh w zero k xs []) } in
+    let start : Numbered k k (reverse (built-leaves zero k xs)) =
+    record { twice = omega arith; below = λ w. omega (arith, leaves-weigh w zero k xs []) } in
     let end = build-keeps (Numbered k) (round-numbered k) xs start in
     let m : 2 * k - 1 ≡ end .0 = omega (arith, end .1 .twice) in
     rw (nodes-for, m, numbers-weight) (omega (arith, end .1 .below w))
@@ -78,7 +82,8 @@ pool-numbers n xs p =
     (λ room e w.
     let z : p ≡ record { tree = Build.build xs; free = numbers-from need (n - need) } = cc in
     let fits : need + (n - need) ≡ n = omega arith in
-    rw (z, all-weight) (omega (arith, build-numbers xs w, numbers-weight w (Build.build xs), rw (zero-add, fits) at (numbers-more w zero need (n - need)))))
+    let all = rw (zero-add, fits) at (numbers-more w zero need (n - need)) in
+    rw (z, all-weight) (omega (arith, build-numbers xs w, numbers-weight w (Build.build xs), all)))
 
 -- so no number of a built pool stands twice
 pub pool-distinct : (n : ℕ) (xs : List Bool) (p : Pool) → build n xs ≡ some p → Distinct (all-numbers p)

@@ -25,7 +25,8 @@ pub by-ltb : {P : Type 0} (m n : ℕ) → (ltb m n ≡ true → m < n → P) →
 by-ltb m n p q = by-test (ltb m n) (λ e. p e (ltb-true m n e)) (λ e. q e (ltb-false m n e))
 
 -- the same for the test of heights
-by-higher : {P : Type 0} (n : ℕ) (t u : Tree) → (higher-by n t u ≡ true → height t ≡ height u + n → P) → (higher-by n t u ≡ false → (height t ≡ height u + n → ⊥) → P) → P
+by-higher : {P : Type 0} (n : ℕ) (t u : Tree) → (higher-by n t u ≡ true → height t ≡ height u + n → P)
+    → (higher-by n t u ≡ false → (height t ≡ height u + n → ⊥) → P) → P
 unfolding higher-by
 by-higher n t u p q = by-test (higher-by n t u) (λ e. p e (eqb-true (height t) (height u + n) e)) (λ e. q e (eqb-false (height t) (height u + n) e))
 
@@ -33,17 +34,21 @@ by-higher n t u p q = by-test (higher-by n t u) (λ e. p e (eqb-true (height t) 
 
 module _ (P : Tree → Type 0) (n : ℕ) (l r : Tree) where
   -- a left child is turned left if it leans right
-  pub leaning-left-cases : (height r ≡ height l + 1 → P (turn-left (fork n l r))) → ((height r ≡ height l + 1 → ⊥) → P (fork n l r)) → P (leaning-left (fork n l r))
+  pub leaning-left-cases : (height r ≡ height l + 1 → P (turn-left (fork n l r))) → ((height r ≡ height l + 1 → ⊥) → P (fork n l r))
+      → P (leaning-left (fork n l r))
   unfolding leaning-left
   leaning-left-cases p q = by-higher 1 r l (λ e h. rw (leaning-left, e) (p h)) (λ e h. rw (leaning-left, e) (q h))
 
   -- the mirror image
-  pub leaning-right-cases : (height l ≡ height r + 1 → P (turn-right (fork n l r))) → ((height l ≡ height r + 1 → ⊥) → P (fork n l r)) → P (leaning-right (fork n l r))
+  pub leaning-right-cases : (height l ≡ height r + 1 → P (turn-right (fork n l r))) → ((height l ≡ height r + 1 → ⊥) → P (fork n l r))
+      → P (leaning-right (fork n l r))
   unfolding leaning-right
   leaning-right-cases p q = by-higher 1 l r (λ e h. rw (leaning-right, e) (p h)) (λ e h. rw (leaning-right, e) (q h))
 
   -- balancing turns right where the left child is too high, left where the right child is, and else leaves the fork as it is
-  pub rebalance-cases : (height l ≡ height r + 2 → P (turn-right (fork n (leaning-left l) r))) → (height r ≡ height l + 2 → P (turn-left (fork n l (leaning-right r)))) → ((height l ≡ height r + 2 → ⊥) → (height r ≡ height l + 2 → ⊥) → P (fork n l r)) → P (rebalance n l r)
+  pub rebalance-cases : (height l ≡ height r + 2 → P (turn-right (fork n (leaning-left l) r)))
+      → (height r ≡ height l + 2 → P (turn-left (fork n l (leaning-right r))))
+      → ((height l ≡ height r + 2 → ⊥) → (height r ≡ height l + 2 → ⊥) → P (fork n l r)) → P (rebalance n l r)
   unfolding rebalance
   rebalance-cases p q k =
       by-higher 2 l r
@@ -53,12 +58,16 @@ module _ (P : Tree → Type 0) (n : ℕ) (l r : Tree) where
 -- ---- insert
 
 -- a leaf splits where it has 128 marks
-pub settle-cases : (P : Tree → Type 0) (n : ℕ) (xs : List Bool) (free : List ℕ) → (leaf-split ≤ length xs → P (fork n (leaf (getD free 0 0) (take leaf-half xs)) (leaf (getD free 1 0) (drop leaf-half xs)))) → (length xs < leaf-split → P (leaf n xs)) → P (settle n xs free)
+pub settle-cases : (P : Tree → Type 0) (n : ℕ) (xs : List Bool) (free : List ℕ)
+    → (leaf-split ≤ length xs → P (fork n (leaf (getD free 0 0) (take leaf-half xs)) (leaf (getD free 1 0) (drop leaf-half xs))))
+    → (length xs < leaf-split → P (leaf n xs)) → P (settle n xs free)
 unfolding settle
 settle-cases P n xs free p q = by-leb leaf-split (length xs) (λ e h. rw (settle, e) (p h)) (λ e h. rw (settle, e) (q h))
 
 -- an insert goes left or right
-pub insert-cases : (P : Tree → Type 0) (i : ℕ) (b : Bool) (free : List ℕ) (n : ℕ) (l r : Tree) → (i < size l → P (rebalance n (insert i b free l) r)) → (size l ≤ i → P (rebalance n l (insert (i - size l) b free r))) → P (insert i b free (fork n l r))
+pub insert-cases : (P : Tree → Type 0) (i : ℕ) (b : Bool) (free : List ℕ) (n : ℕ) (l r : Tree)
+    → (i < size l → P (rebalance n (insert i b free l) r)) → (size l ≤ i → P (rebalance n l (insert (i - size l) b free r)))
+    → P (insert i b free (fork n l r))
 unfolding insert
 insert-cases P i b free n l r p q = by-ltb i (size l) (λ e h. rw (insert, e) (p h)) (λ e h. rw (insert, e) (q h))
 
@@ -75,14 +84,17 @@ splits-right i n l r h = rw (splits, leaf-at, le-ltb i (size l) h)
 -- ---- remove
 
 -- a remove goes left or right
-pub remove-cases : (P : Trimmed → Type 0) (i n : ℕ) (l r : Tree) → (i < size l → P (mend-left n (remove i l) r)) → (size l ≤ i → P (mend-right n l (remove (i - size l) r))) → P (remove i (fork n l r))
+pub remove-cases : (P : Trimmed → Type 0) (i n : ℕ) (l r : Tree) → (i < size l → P (mend-left n (remove i l) r))
+    → (size l ≤ i → P (mend-right n l (remove (i - size l) r))) → P (remove i (fork n l r))
 unfolding remove
 remove-cases P i n l r p q = by-ltb i (size l) (λ e h. rw (remove, e) (p h)) (λ e h. rw (remove, e) (q h))
 
 -- a child left with too few marks is joined to the neighbouring leaf, or borrows a mark from it, and is else kept
 pub mend-left-cases : (P : Trimmed → Type 0) (n : ℕ) (t : Trimmed) (r : Tree)
-    → (size (t .tree) ≤ leaf-low → length (first-leaf r) ≤ leaf-lean → P (record { tree = renumber n (put-before (marks (t .tree)) r); freed = top r ∷ top (t .tree) ∷ t .freed }))
-    → (size (t .tree) ≤ leaf-low → leaf-lean < length (first-leaf r) → P (record { tree = rebalance n (put-after (first-mark r) (t .tree)) (drop-first r); freed = t .freed }))
+    → (size (t .tree) ≤ leaf-low → length (first-leaf r) ≤ leaf-lean
+    → P (record { tree = renumber n (put-before (marks (t .tree)) r); freed = top r ∷ top (t .tree) ∷ t .freed }))
+    → (size (t .tree) ≤ leaf-low → leaf-lean < length (first-leaf r)
+    → P (record { tree = rebalance n (put-after (first-mark r) (t .tree)) (drop-first r); freed = t .freed }))
     → (leaf-low < size (t .tree) → P (record { tree = rebalance n (t .tree) r; freed = t .freed })) → P (mend-left n t r)
 unfolding mend-left
 mend-left-cases P n t r p q k =
@@ -92,8 +104,10 @@ mend-left-cases P n t r p q k =
 
 -- the mirror image
 pub mend-right-cases : (P : Trimmed → Type 0) (n : ℕ) (l : Tree) (t : Trimmed)
-    → (size (t .tree) ≤ leaf-low → length (last-leaf l) ≤ leaf-lean → P (record { tree = renumber n (put-after (marks (t .tree)) l); freed = top (t .tree) ∷ top l ∷ t .freed }))
-    → (size (t .tree) ≤ leaf-low → leaf-lean < length (last-leaf l) → P (record { tree = rebalance n (drop-last l) (put-before (last-mark l) (t .tree)); freed = t .freed }))
+    → (size (t .tree) ≤ leaf-low → length (last-leaf l) ≤ leaf-lean
+    → P (record { tree = renumber n (put-after (marks (t .tree)) l); freed = top (t .tree) ∷ top l ∷ t .freed }))
+    → (size (t .tree) ≤ leaf-low → leaf-lean < length (last-leaf l)
+    → P (record { tree = rebalance n (drop-last l) (put-before (last-mark l) (t .tree)); freed = t .freed }))
     → (leaf-low < size (t .tree) → P (record { tree = rebalance n l (t .tree); freed = t .freed })) → P (mend-right n l t)
 unfolding mend-right
 mend-right-cases P n l t p q k =

@@ -39,13 +39,15 @@ turn-left-marks (fork b a (fork d c e)) = simp append-assoc
 pub leaning-left-marks : (t : Tree) → marks (leaning-left t) ≡ marks t
 unfolding leaning-left
 leaning-left-marks (leaf n xs) = refl
-leaning-left-marks (fork n l r) = leaning-left-cases (λ (t : Tree). marks t ≡ marks (fork n l r)) n l r (λ _. turn-left-marks (fork n l r)) (λ _. refl)
+leaning-left-marks (fork n l r) =
+    leaning-left-cases (λ (t : Tree). marks t ≡ marks (fork n l r)) n l r (λ _. turn-left-marks (fork n l r)) (λ _. refl)
 
 -- the mirror image
 pub leaning-right-marks : (t : Tree) → marks (leaning-right t) ≡ marks t
 unfolding leaning-right
 leaning-right-marks (leaf n xs) = refl
-leaning-right-marks (fork n l r) = leaning-right-cases (λ (t : Tree). marks t ≡ marks (fork n l r)) n l r (λ _. turn-right-marks (fork n l r)) (λ _. refl)
+leaning-right-marks (fork n l r) =
+    leaning-right-cases (λ (t : Tree). marks t ≡ marks (fork n l r)) n l r (λ _. turn-right-marks (fork n l r)) (λ _. refl)
 
 -- balancing changes no marks
 pub rebalance-marks : (n : ℕ) (l r : Tree) → marks (rebalance n l r) ≡ marks l ++ marks r
@@ -71,7 +73,9 @@ insert-marks i b free (fork n l r) h =
     let s = size-marks l in
     insert-cases (λ (t : Tree). marks t ≡ Marks.insert i b (marks l ++ marks r)) i b free n l r
     (λ left. let k : i ≤ length (marks l) = omega arith in simp (rebalance-marks, insert-marks i b free l (omega arith), insert-first))
-    (λ right. let k : length (marks l) ≤ i = omega arith in simp (rebalance-marks, insert-marks (i - size l) b free r (omega arith), insert-past, ← s))
+    (λ right.
+    let k : length (marks l) ≤ i = omega arith in
+    simp (rebalance-marks, insert-marks (i - size l) b free r (omega arith), insert-past, ← s))
 
 -- ---- remove
 

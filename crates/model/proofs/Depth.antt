@@ -66,8 +66,10 @@ depth n p h s = by-leb (height (p .tree)) levels (λ _ k. k) (λ _ k. absurd (de
   where
     deep : levels < height (p .tree) → ⊥
     deep k =
-        let nodes : length (numbers-from 0 n) ≡ length (numbers (p .tree) ++ p .free) = rearranged-length (numbers-from 0 n) (numbers (p .tree) ++ p .free) (s .each) in
-        let split : length (numbers (p .tree) ++ p .free) ≡ length (numbers (p .tree)) + length (p .free) = length-append (numbers (p .tree)) (p .free) in
+        let nodes : length (numbers-from 0 n) ≡ length (numbers (p .tree) ++ p .free) =
+        rearranged-length (numbers-from 0 n) (numbers (p .tree) ++ p .free) (s .each) in
+        let split : length (numbers (p .tree) ++ p .free) ≡ length (numbers (p .tree)) + length (p .free) =
+        length-append (numbers (p .tree)) (p .free) in
         let few : fewest-leaves 13 ≤ fewest-leaves ((height (p .tree) - 13) + 13) = fewest-mono (height (p .tree) - 13) 13 in
         let back : (height (p .tree) - 13) + 13 ≡ height (p .tree) = omega arith in
         omega (arith, node-total (p .tree), fewest (p .tree) (s .balanced), rw back at few, numbers-from-length 0 n)

@@ -23,4 +23,5 @@ distinct-second (m ∷ ms) ns d = distinct-second ms ns (d .1)
 pub distinct-apart : (ms ns : List ℕ) → Distinct (ms ++ ns) → (k : ℕ) → List·Memᴰ k ms → List·Memᴰ k ns → ⊥
 distinct-apart [] ns d k h l = List·Memᴰ·not-nil h
 distinct-apart (m ∷ ms) ns d k h l =
-    ⊎-elim (λ (e : k ≡ m). d .0 (Memᴰ·append-right ms (Memᴰ·cast (sym e) l))) (λ (h′ : List·Memᴰ k ms). distinct-apart ms ns (d .1) k h′ l) (List·Memᴰ·cases-cons h)
+    ⊎-elim (λ (e : k ≡ m). d .0 (Memᴰ·append-right ms (Memᴰ·cast (sym e) l))) (λ (h′ : List·Memᴰ k ms). distinct-apart ms ns (d .1) k h′ l)
+    (List·Memᴰ·cases-cons h)

@@ -39,7 +39,8 @@ full-size least i (leaf n xs) few s = λ e. omega arith
 full-size least i (fork n l r) few s =
     by-ltb i (size l)
     (λ e h. rw (leaf-at, e) (λ (k : length (leaf-at i l) ≡ 127). omega (arith, full-size 33 i l (omega arith) (s .0) k, least-size least r (s .1))))
-    (λ e h. rw (leaf-at, e) (λ (k : length (leaf-at (i - size l) r) ≡ 127). omega (arith, least-size 33 l (s .0), full-size least (i - size l) r few (s .1) k)))
+    (λ e h. rw (leaf-at, e) (λ (k : length (leaf-at (i - size l) r) ≡ 127).
+    omega (arith, least-size 33 l (s .0), full-size least (i - size l) r few (s .1) k)))
 
 -- ---- a whole pool
 
@@ -54,7 +55,8 @@ pub sound-leaves : (n : ℕ) (p : Pool) → Sound n p → length (p .free) < 2 �
 sound-leaves n p s few = omega (arith, sound-nodes n p s, node-total (p .tree))
 
 -- no room: the leaf holds 127, and fewer than two nodes are free
-pub full-means : (least i : ℕ) (p : Pool) → Sized least (p .tree) → full (two-free p) i p ≡ true → (length (leaf-at i (p .tree)) ≡ 127) × (length (p .free) < 2)
+pub full-means : (least i : ℕ) (p : Pool) → Sized least (p .tree) → full (two-free p) i p ≡ true
+    → (length (leaf-at i (p .tree)) ≡ 127) × (length (p .free) < 2)
 unfolding full splits
 full-means least i p s =
     by-leb leaf-split (suc (length (leaf-at i (p .tree))))

@@ -82,16 +82,19 @@ rebalance-sized least n l r p q =
 -- ---- insert
 
 -- a leaf of at most 128 marks, split or not
-settle-sized : (least n : ℕ) (xs : List Bool) (free : List ℕ) → least ≤ leaf-least → least ≤ length xs → length xs ≤ leaf-split → Sized least (settle n xs free)
+settle-sized : (least n : ℕ) (xs : List Bool) (free : List ℕ) → least ≤ leaf-least → least ≤ length xs → length xs ≤ leaf-split
+    → Sized least (settle n xs free)
 settle-sized least n xs free low p q =
     settle-cases (Sized least) n xs free
     (λ full. simp (length-take leaf-half xs, length-drop leaf-half xs) (omega arith))
     (λ room. omega arith)
 
 -- an insert keeps the leaves neither too full nor too empty
-pub insert-sized : (least i : ℕ) (b : Bool) (free : List ℕ) (t : Tree) → least ≤ leaf-least → i ≤ size t → Sized least t → Sized least (insert i b free t)
+pub insert-sized : (least i : ℕ) (b : Bool) (free : List ℕ) (t : Tree) → least ≤ leaf-least → i ≤ size t → Sized least t
+    → Sized least (insert i b free t)
 unfolding insert size
-insert-sized least i b free (leaf n xs) low h s = let e = length-insert i b xs h in settle-sized least n (Marks.insert i b xs) free low (omega arith) (omega arith)
+insert-sized least i b free (leaf n xs) low h s =
+    let e = length-insert i b xs h in settle-sized least n (Marks.insert i b xs) free low (omega arith) (omega arith)
 insert-sized least i b free (fork n l r) low h s =
     insert-cases (Sized least) i b free n l r
     (λ left. rebalance-sized least n (insert i b free l) r (insert-sized leaf-least i b free l (omega arith) (omega arith) (s .0)) (s .1))

@@ -46,13 +46,15 @@ short-leaf least (fork n l r) s small = absurd (omega (arith, fork-size least n 
 -- ---- marks put to an end, and taken off it
 
 -- marks put before the first leaf, where they fit
-put-before-sized : (least : ℕ) (ys : List Bool) (t : Tree) → length ys + length (first-leaf t) ≤ leaf-most → Sized least t → Sized least (put-before ys t)
+put-before-sized : (least : ℕ) (ys : List Bool) (t : Tree) → length ys + length (first-leaf t) ≤ leaf-most → Sized least t
+    → Sized least (put-before ys t)
 unfolding put-before first-leaf
 put-before-sized least ys (leaf n xs) h s = simp length-append (omega arith)
 put-before-sized least ys (fork n l r) h s = (put-before-sized leaf-least ys l h (s .0), s .1)
 
 -- marks put after the last leaf, where they fit
-put-after-sized : (least : ℕ) (ys : List Bool) (t : Tree) → length (last-leaf t) + length ys ≤ leaf-most → Sized least t → Sized least (put-after ys t)
+put-after-sized : (least : ℕ) (ys : List Bool) (t : Tree) → length (last-leaf t) + length ys ≤ leaf-most → Sized least t
+    → Sized least (put-after ys t)
 unfolding put-after last-leaf
 put-after-sized least ys (leaf n xs) h s = simp length-append (omega arith)
 put-after-sized least ys (fork n l r) h s = (s .0, put-after-sized least ys r h (s .1))
@@ -116,7 +118,8 @@ module _ (least n : ℕ) (pos : 1 ≤ least) (low : least ≤ leaf-least) where
   mend-right-sized l t p q =
       let m = size-marks (t .tree) in
       mend-right-cases (λ (u : Trimmed). Sized least (u .tree)) n l t
-      (λ small lean. renumber-sized least n (put-after (marks (t .tree)) l) (sized-weaken least leaf-least (put-after (marks (t .tree)) l) low (put-after-sized leaf-least (marks (t .tree)) l (omega arith) p)))
+      (λ small lean. renumber-sized least n (put-after (marks (t .tree)) l)
+      (sized-weaken least leaf-least (put-after (marks (t .tree)) l) low (put-after-sized leaf-least (marks (t .tree)) l (omega arith) p)))
       (λ small rich. rebalance-sized least n (drop-last l) (put-before (last-mark l) (t .tree))
       (drop-last-sized leaf-least l (omega arith) p)
       (lent-before least (last-mark l) (t .tree) pos (last-mark-one l (omega arith)) small q))

@@ -6,6 +6,7 @@ pub mod BuiltLeaves
 pub mod BuiltNumbers
 pub mod Cases
 pub mod Content
+pub mod Contracts
 pub mod Counting
 pub mod Depth
 pub mod Distincts

@@ -69,13 +69,15 @@ turn-left-weight w (fork b a (fork d c e)) = omega arith
 pub leaning-left-weight : (w : ℕ → ℕ) (t : Tree) → weight w (leaning-left t) ≡ weight w t
 unfolding leaning-left
 leaning-left-weight w (leaf n xs) = refl
-leaning-left-weight w (fork n l r) = leaning-left-cases (λ (t : Tree). weight w t ≡ weight w (fork n l r)) n l r (λ _. turn-left-weight w (fork n l r)) (λ _. refl)
+leaning-left-weight w (fork n l r) =
+    leaning-left-cases (λ (t : Tree). weight w t ≡ weight w (fork n l r)) n l r (λ _. turn-left-weight w (fork n l r)) (λ _. refl)
 
 -- the mirror image
 pub leaning-right-weight : (w : ℕ → ℕ) (t : Tree) → weight w (leaning-right t) ≡ weight w t
 unfolding leaning-right
 leaning-right-weight w (leaf n xs) = refl
-leaning-right-weight w (fork n l r) = leaning-right-cases (λ (t : Tree). weight w t ≡ weight w (fork n l r)) n l r (λ _. turn-right-weight w (fork n l r)) (λ _. refl)
+leaning-right-weight w (fork n l r) =
+    leaning-right-cases (λ (t : Tree). weight w t ≡ weight w (fork n l r)) n l r (λ _. turn-right-weight w (fork n l r)) (λ _. refl)
 
 -- balancing rearranges the numbers
 pub rebalance-weight : (w : ℕ → ℕ) (n : ℕ) (l r : Tree) → weight w (rebalance n l r) ≡ w n + weight w l + weight w r
@@ -102,7 +104,8 @@ settle-weight w n xs free =
     (λ room. rw (lt-leb leaf-split (length xs) room) (omega arith))
 
 -- an insert takes the first two free numbers where its leaf splits
-pub insert-weight : (w : ℕ → ℕ) (i : ℕ) (b : Bool) (free : List ℕ) (t : Tree) → i ≤ size t → weight w (insert i b free t) ≡ weight w t + taken w free (splits i t)
+pub insert-weight : (w : ℕ → ℕ) (i : ℕ) (b : Bool) (free : List ℕ) (t : Tree) → i ≤ size t
+    → weight w (insert i b free t) ≡ weight w t + taken w free (splits i t)
 unfolding weight insert size splits leaf-at
 insert-weight w i b free (leaf n xs) h = rw (settle-weight, length-insert i b xs h)
 insert-weight w i b free (fork n l r) h =
@@ -127,36 +130,47 @@ unfoldable pub kept : (ℕ → ℕ) → Trimmed → ℕ
 kept w t = weight w (t .tree) + weigh w (t .freed)
 
 -- what the mend joins away it frees
-mend-left-weight : (w : ℕ → ℕ) (n : ℕ) (t : Trimmed) (r : Tree) → (size (t .tree) ≤ leaf-low → t .tree ≡ leaf (top (t .tree)) (marks (t .tree))) → kept w (mend-left n t r) ≡ w n + kept w t + weight w r
+mend-left-weight : (w : ℕ → ℕ) (n : ℕ) (t : Trimmed) (r : Tree)
+    → (size (t .tree) ≤ leaf-low → t .tree ≡ leaf (top (t .tree)) (marks (t .tree))) → kept w (mend-left n t r) ≡ w n + kept w t + weight w r
 unfolding kept weigh weight
 mend-left-weight w n t r single =
     mend-left-cases (λ (u : Trimmed). kept w u ≡ w n + kept w t + weight w r) n t r
     (λ small _. omega (arith, ap (weight w) (single small), joined-weight w n _ r (put-before-shape (marks (t .tree)) r)))
-    (λ _ _. omega (arith, rebalance-weight w n (put-after (first-mark r) (t .tree)) (drop-first r), alike-weight w _ (t .tree) (put-after-shape (first-mark r) (t .tree)), alike-weight w _ r (drop-first-shape r)))
+    (λ _ _.
+    let kept-left = alike-weight w _ (t .tree) (put-after-shape (first-mark r) (t .tree)) in
+    let kept-right = alike-weight w _ r (drop-first-shape r) in
+    omega (arith, rebalance-weight w n (put-after (first-mark r) (t .tree)) (drop-first r)))
     (λ _. omega (arith, rebalance-weight w n (t .tree) r))
 
 -- the mirror image
-mend-right-weight : (w : ℕ → ℕ) (n : ℕ) (l : Tree) (t : Trimmed) → (size (t .tree) ≤ leaf-low → t .tree ≡ leaf (top (t .tree)) (marks (t .tree))) → kept w (mend-right n l t) ≡ w n + weight w l + kept w t
+mend-right-weight : (w : ℕ → ℕ) (n : ℕ) (l : Tree) (t : Trimmed)
+    → (size (t .tree) ≤ leaf-low → t .tree ≡ leaf (top (t .tree)) (marks (t .tree))) → kept w (mend-right n l t) ≡ w n + weight w l + kept w t
 unfolding kept weigh weight
 mend-right-weight w n l t single =
     mend-right-cases (λ (u : Trimmed). kept w u ≡ w n + weight w l + kept w t) n l t
     (λ small _. omega (arith, ap (weight w) (single small), joined-weight w n _ l (put-after-shape (marks (t .tree)) l)))
-    (λ _ _. omega (arith, rebalance-weight w n (drop-last l) (put-before (last-mark l) (t .tree)), alike-weight w _ (t .tree) (put-before-shape (last-mark l) (t .tree)), alike-weight w _ l (drop-last-shape l)))
+    (λ _ _.
+    let kept-left = alike-weight w _ l (drop-last-shape l) in
+    let kept-right = alike-weight w _ (t .tree) (put-before-shape (last-mark l) (t .tree)) in
+    omega (arith, rebalance-weight w n (drop-last l) (put-before (last-mark l) (t .tree))))
     (λ _. omega (arith, rebalance-weight w n l (t .tree)))
 
 -- a remove frees the numbers that the tree no longer has
-pub remove-weight-sized : (w : ℕ → ℕ) (least i : ℕ) (t : Tree) → 1 ≤ least → least ≤ leaf-least → i < size t → Sized least t → kept w (remove i t) ≡ weight w t
+pub remove-weight-sized : (w : ℕ → ℕ) (least i : ℕ) (t : Tree) → 1 ≤ least → least ≤ leaf-least → i < size t → Sized least t
+    → kept w (remove i t) ≡ weight w t
 unfolding remove kept weigh weight size
 remove-weight-sized w least i (leaf n xs) pos low h s = omega arith
 remove-weight-sized w least i (fork n l r) pos low h s =
     remove-cases (λ (u : Trimmed). kept w u ≡ weight w (fork n l r)) i n l r
     (λ left.
     let s′ = remove-short leaf-least i l (omega arith) (omega arith) left (s .0) in
-    omega (arith, mend-left-weight w n (remove i l) r (short-leaf leaf-least (remove i l .tree) s′), remove-weight-sized w leaf-least i l (omega arith) (omega arith) left (s .0)))
+    let child = remove-weight-sized w leaf-least i l (omega arith) (omega arith) left (s .0) in
+    omega (arith, mend-left-weight w n (remove i l) r (short-leaf leaf-least (remove i l .tree) s′)))
     (λ right.
     let h′ : i - size l < size r = omega arith in
     let s′ = remove-short least (i - size l) r pos low h′ (s .1) in
-    omega (arith, mend-right-weight w n l (remove (i - size l) r) (short-leaf least (remove (i - size l) r .tree) s′), remove-weight-sized w least (i - size l) r pos low h′ (s .1)))
+    let child = remove-weight-sized w least (i - size l) r pos low h′ (s .1) in
+    omega (arith, mend-right-weight w n l (remove (i - size l) r) (short-leaf least (remove (i - size l) r .tree) s′)))
 
 -- the same of a whole tree
 pub remove-weight : (w : ℕ → ℕ) (i : ℕ) (t : Tree) → i < size t → Whole t → weight w (remove i t .tree) + weigh w (remove i t .freed) ≡ weight w t
@@ -172,12 +186,14 @@ unfolding weight
 rebalance-numbers n l r w = simp (numbers-weight, rebalance-weight)
 
 -- an insert whose leaf splits adds the first two free numbers
-pub insert-numbers-split : (i : ℕ) (b : Bool) (free : List ℕ) (t : Tree) → i ≤ size t → splits i t ≡ true → Rearranged (getD free 0 0 ∷ getD free 1 0 ∷ numbers t) (numbers (insert i b free t))
+pub insert-numbers-split : (i : ℕ) (b : Bool) (free : List ℕ) (t : Tree) → i ≤ size t → splits i t ≡ true
+    → Rearranged (getD free 0 0 ∷ getD free 1 0 ∷ numbers t) (numbers (insert i b free t))
 unfolding weigh taken
 insert-numbers-split i b free t h split w = simp (numbers-weight, insert-weight w i b free t h, split) (omega arith)
 
 -- any other insert keeps the numbers
-pub insert-numbers-room : (i : ℕ) (b : Bool) (free : List ℕ) (t : Tree) → i ≤ size t → splits i t ≡ false → Rearranged (numbers t) (numbers (insert i b free t))
+pub insert-numbers-room : (i : ℕ) (b : Bool) (free : List ℕ) (t : Tree) → i ≤ size t → splits i t ≡ false
+    → Rearranged (numbers t) (numbers (insert i b free t))
 unfolding taken
 insert-numbers-room i b free t h room w = simp (numbers-weight, insert-weight w i b free t h, room) (omega arith)
 

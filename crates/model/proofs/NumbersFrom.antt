@@ -32,7 +32,8 @@ numbers-from-bounds m n (suc k) h = by-member h (λ e. omega arith) (λ later. o
 pub numbers-from-member : (m n k : ℕ) → n ≤ m → m < n + k → List·Memᴰ m (numbers-from n k)
 unfolding numbers-from
 numbers-from-member m n zero low high = absurd (omega arith)
-numbers-from-member m n (suc k) low high = by-leb m n (λ _ h. List·Memᴰ·head (omega arith)) (λ _ h. List·Memᴰ·tail (numbers-from-member m (suc n) k (omega arith) (omega arith)))
+numbers-from-member m n (suc k) low high =
+    by-leb m n (λ _ h. List·Memᴰ·head (omega arith)) (λ _ h. List·Memᴰ·tail (numbers-from-member m (suc n) k (omega arith) (omega arith)))
 
 -- none stands twice
 pub numbers-from-distinct : (n k : ℕ) → Distinct (numbers-from n k)

@@ -1,16 +1,15 @@
 -- Asking along a path: an answer for a fork is one for its left child, or one for its right child with what stands before it counted in.
-use Prim.Native.Nat.{ℕ, zero, suc, _+_, _-_, _≤_, _<_}
+use Prim.Native.Nat.{ℕ, _+_, _-_, _≤_, _<_}
 use native.Mathlib.Omega.{arith}
-use mathlib.Core.Path.{_≡_, refl, sym, ap, _∙_}
+use mathlib.Core.Path.{_≡_, sym, ap, _∙_}
 use mathlib.Core.Bool.{Bool, true, false}
-use mathlib.Core.List.{List, _++_}
-use mathlib.Core.Option.{Option}
-use lib.ListN.{length, take, getD, List·getD-append}
+use mathlib.Core.List.{_++_}
+use lib.ListN.{length, take, List·getD-append}
 use lib.Seq.{take-append-le, take-append-add, getD-append-add}
-use Rattle.model.specs.Marks.{access, count, further, rank, select, wanted, ones}
+use Rattle.model.specs.Marks.{access, count, further, rank, select}
 use Rattle.model.specs.Tree.{Tree, marks, size}
 use Rattle.model.proofs.Content.{size-marks}
-use Rattle.model.proofs.Counting.{count-append, count-both, ones-le, select-in-first, select-in-second}
+use Rattle.model.proofs.Counting.{count-append, count-both, select-in-first, select-in-second}
 
 module _ (l r : Tree) where
   pub access-left : (i : ℕ) → i < size l → access i (marks l ++ marks r) ≡ access i (marks l)
@@ -36,8 +35,10 @@ module _ (l r : Tree) where
   pub select-left : (b : Bool) (k : ℕ) → k ≤ count b (marks l) → select b k (marks l ++ marks r) ≡ select b k (marks l)
   select-left b k h = select-in-first b k (marks l) (marks r) h
 
-  pub select-right : (b : Bool) (k : ℕ) → count b (marks l) < k → select b k (marks l ++ marks r) ≡ further (size l) (select b (k - count b (marks l)) (marks r))
-  select-right b k h = select-in-second b k (marks l) (marks r) h ∙ ap (λ (n : ℕ). further n (select b (k - count b (marks l)) (marks r))) (sym (size-marks l))
+  pub select-right : (b : Bool) (k : ℕ) → count b (marks l) < k
+      → select b k (marks l ++ marks r) ≡ further (size l) (select b (k - count b (marks l)) (marks r))
+  select-right b k h =
+      select-in-second b k (marks l) (marks r) h ∙ ap (λ (n : ℕ). further n (select b (k - count b (marks l)) (marks r))) (sym (size-marks l))
 
 -- strikes and quiets make up the marks
 pub count-size : (t : Tree) → count true (marks t) + count false (marks t) ≡ size t

@@ -15,9 +15,9 @@ use Rattle.model.specs.Pool.{Pool, numbers-from, nodes-for, build, full,
 use Rattle.model.proofs.Cases.{by-test, by-leb}
 
 -- a build is refused where the tree needs more nodes than there are
-pub build-outcomes : (P : Option Pool → Type 0) (n : ℕ) (xs : List Bool)
-    → (n < nodes-for (Build.leaf-count (length xs)) → P none)
-    → (nodes-for (Build.leaf-count (length xs)) ≤ n → P (some (record { tree = Build.build xs; free = numbers-from (nodes-for (Build.leaf-count (length xs))) (n - nodes-for (Build.leaf-count (length xs))) })))
+pub build-outcomes : (P : Option Pool → Type 0) (n : ℕ) (xs : List Bool) → let need = nodes-for (Build.leaf-count (length xs)) in
+    (n < need → P none)
+    → (need ≤ n → P (some (record { tree = Build.build xs; free = numbers-from need (n - need) })))
     → P (build n xs)
 unfolding build
 build-outcomes P n xs refused room =

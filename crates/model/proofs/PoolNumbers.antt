@@ -4,11 +4,11 @@ use Prim.Native.Nat.{ℕ, _+_, _≤_, _<_}
 use native.Mathlib.Omega.{arith}
 use mathlib.Core.Path.{_≡_}
 use mathlib.Core.Bool.{Bool, true}
-use mathlib.Core.List.{List, [], _∷_, _++_}
+use mathlib.Core.List.{List, [], _∷_}
 use mathlib.Core.Option.{Option, some}
 use lib.ListN.{length, drop}
 unfoldable pub use Rattle.model.specs.Sound.{all-numbers}
-use Rattle.model.specs.Tree.{size, numbers}
+use Rattle.model.specs.Tree.{size}
 use Rattle.model.specs.Sound.{Whole, Distinct}
 use Rattle.model.specs.Edit as Edit
 use Rattle.model.specs.Pool.{Pool, insert, remove}
@@ -29,7 +29,8 @@ first-two w (a ∷ []) h = absurd (omega arith)
 first-two w (a ∷ b ∷ ns) h = omega arith
 
 -- an insert that is not refused rearranges the numbers
-pub insert-rearranged : (may : Bool) (i : ℕ) (b : Bool) (p q : Pool) → i ≤ size (p .tree) → (may ≡ true → 2 ≤ length (p .free)) → insert may i b p ≡ some q
+pub insert-rearranged : (may : Bool) (i : ℕ) (b : Bool) (p q : Pool) → i ≤ size (p .tree) → (may ≡ true → 2 ≤ length (p .free))
+    → insert may i b p ≡ some q
     → Rearranged (all-numbers p) (all-numbers q)
 unfolding taken
 insert-rearranged may i b p q h two =
@@ -48,7 +49,8 @@ unfolding remove
 remove-rearranged i p h whole w = simp (all-weight, remove, weigh-append) (omega (arith, remove-weight w i (p .tree) h whole))
 
 -- so no number comes to stand twice
-pub insert-distinct : (may : Bool) (i : ℕ) (b : Bool) (p q : Pool) → i ≤ size (p .tree) → (may ≡ true → 2 ≤ length (p .free)) → insert may i b p ≡ some q
+pub insert-distinct : (may : Bool) (i : ℕ) (b : Bool) (p q : Pool) → i ≤ size (p .tree) → (may ≡ true → 2 ≤ length (p .free))
+    → insert may i b p ≡ some q
     → Distinct (all-numbers p) → Distinct (all-numbers q)
 insert-distinct may i b p q h two e = rearranged-distinct (all-numbers p) (all-numbers q) (insert-rearranged may i b p q h two e)
 

@@ -51,7 +51,8 @@ insert-tree may i b p q =
     (λ _ _ e. let z : q ≡ record { tree = Edit.insert i b (p .free) (p .tree); free = drop 2 (p .free) } = cc in rw z)
     (λ _ e. let z : q ≡ record { tree = Edit.insert i b (p .free) (p .tree); free = p .free } = cc in rw z)
 
-pub insert-sound : (n : ℕ) (may : Bool) (i : ℕ) (b : Bool) (p q : Pool) → i ≤ size (p .tree) → (may ≡ true → 2 ≤ length (p .free)) → insert may i b p ≡ some q
+pub insert-sound : (n : ℕ) (may : Bool) (i : ℕ) (b : Bool) (p q : Pool) → i ≤ size (p .tree) → (may ≡ true → 2 ≤ length (p .free))
+    → insert may i b p ≡ some q
     → Sound n p → Sound n q
 insert-sound n may i b p q h two e s =
     record {

@@ -38,12 +38,14 @@ unfoldable pub next-number : ℕ → List Tree → ℕ
 next-number n ts = n + (length ts - length (round n ts))
 
 -- enough rounds leave one tree, and of it holds whatever each round keeps
-pub rounds-keep : (P : ℕ → List Tree → Type 0) → ((n : ℕ) (ts : List Tree) → P n ts → P (next-number n ts) (round n ts)) → (k n : ℕ) (ts : List Tree) → 1 ≤ length ts → length ts ≤ suc k → P n ts → (m : ℕ) × P m (rounds k n ts ∷ [])
+pub rounds-keep : (P : ℕ → List Tree → Type 0) → ((n : ℕ) (ts : List Tree) → P n ts → P (next-number n ts) (round n ts))
+    → (k n : ℕ) (ts : List Tree) → 1 ≤ length ts → length ts ≤ suc k → P n ts → (m : ℕ) × P m (rounds k n ts ∷ [])
 unfolding rounds foremost next-number
 rounds-keep P keep zero n [] some few p = absurd (omega arith)
 rounds-keep P keep zero n (t ∷ []) some few p = (n, p)
 rounds-keep P keep zero n (t ∷ u ∷ more) some few p = absurd (omega arith)
-rounds-keep P keep (suc k) n ts some few p = rounds-keep P keep k (next-number n ts) (round n ts) (round-some n ts some) (omega (arith, round-fewer n ts)) (keep n ts p)
+rounds-keep P keep (suc k) n ts some few p =
+    rounds-keep P keep k (next-number n ts) (round n ts) (round-some n ts some) (omega (arith, round-fewer n ts)) (keep n ts p)
 
 -- so many leaves are made as are asked for
 pub built-leaves-length : (n k : ℕ) (xs : List Bool) → length (built-leaves n k xs) ≡ k
@@ -64,7 +66,8 @@ leaf-count-covers zero = omega arith
 leaf-count-covers (suc n) = omega arith
 
 -- of a built tree holds whatever holds of its leaves, the last of them first, and is kept by each round
-pub build-keeps : (P : ℕ → List Tree → Type 0) → ((n : ℕ) (ts : List Tree) → P n ts → P (next-number n ts) (round n ts)) → (xs : List Bool) → P (leaf-count (length xs)) (reverse (built-leaves zero (leaf-count (length xs)) xs)) → (m : ℕ) × P m (build xs ∷ [])
+pub build-keeps : (P : ℕ → List Tree → Type 0) → ((n : ℕ) (ts : List Tree) → P n ts → P (next-number n ts) (round n ts)) → (xs : List Bool)
+    → P (leaf-count (length xs)) (reverse (built-leaves zero (leaf-count (length xs)) xs)) → (m : ℕ) × P m (build xs ∷ [])
 unfolding build
 build-keeps P keep xs p =
     let k : ℕ = leaf-count (length xs) in

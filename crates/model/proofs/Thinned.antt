@@ -192,7 +192,8 @@ becomes-both (out i ∷ cs) ds p q r b d = (b .0, becomes-both cs ds (remove i p
 -- a pool stays sound
 pub becomes-sound : (n : ℕ) (cs : List Change) (p q : Pool) → Becomes cs p q → Sound n p → Sound n q
 becomes-sound n [] p q e s = rw (sym e) s
-becomes-sound n (put i x ∷ cs) p q b s = becomes-sound n cs (b .1) q (b .3) (insert-sound n (two-free p) i x p (b .1) (b .0) (two-free-yes p) (b .2) s)
+becomes-sound n (put i x ∷ cs) p q b s =
+    becomes-sound n cs (b .1) q (b .3) (insert-sound n (two-free p) i x p (b .1) (b .0) (two-free-yes p) (b .2) s)
 becomes-sound n (out i ∷ cs) p q b s = becomes-sound n cs (remove i p) q (b .1) (remove-sound n i p (b .0) s)
 
 remove-pool : (i : ℕ) (p : Pool) → Balanced (p .tree) → i < size (p .tree) → suc leaf-least ≤ length (leaf-at i (p .tree))
@@ -271,7 +272,8 @@ fill (suc k) n p s e t =
     let put-in = insert-pool n p false s (omega arith) in
     let low : 0 ≤ size (p .tree) = omega arith in
     let long = first-longer false (p .tree) in
-    let more = fill k n next (insert-sound n (two-free p) 0 false p next low (two-free-yes p) put-in s) (omega arith) (put-ended false (p .tree) t) in (
+    let sound-next = insert-sound n (two-free p) 0 false p next low (two-free-yes p) put-in s in
+    let more = fill k n next sound-next (omega arith) (put-ended false (p .tree) t) in (
       put 0 false ∷ more .0,
       more .1,
       (low, next, put-in, more .2),

@@ -1,6 +1,6 @@
 -- Two pools of different sizes that hold the same tree: the free chain of the larger begins with that of the smaller. An insert that has room in
 -- the smaller, and a remove, keep it so.
-use Prim.Native.Nat.{ℕ, zero, suc, _+_, _-_, _≤_, _<_}
+use Prim.Native.Nat.{ℕ, zero, suc, _+_, _-_, _≤_}
 use native.Mathlib.Omega.{arith}
 use mathlib.Core.Path.{_≡_, refl, sym, ap, ap₂, _∙_}
 use mathlib.Core.Bool.{Bool, true, false}
@@ -14,8 +14,7 @@ use Rattle.model.specs.Edit.{splits, leaf-split, leaf-at, settle}
 use Rattle.model.specs.Marks as Marks
 use Rattle.model.specs.Pool.{Pool, build, insert, remove, numbers-from, nodes-for, two-free}
 use Rattle.model.specs.Tree.{Tree, leaf, fork, size}
-use Rattle.model.specs.Turn.{rebalance}
-use Rattle.model.proofs.Cases.{by-test, by-leb, by-ltb, insert-cases, splits-left, splits-right}
+use Rattle.model.proofs.Cases.{by-test, by-ltb, splits-left, splits-right}
 use Rattle.model.proofs.MarksEdits.{length-insert}
 use Rattle.model.proofs.PoolCases.{build-outcomes, insert-outcomes, two-free-no, two-free-yes}
 
@@ -37,7 +36,8 @@ unfolding settle
 settle-not-taken n xs f g e = rw (settle, e)
 
 -- an insert takes the first two
-pub insert-taken : (i : ℕ) (b : Bool) (f g : List ℕ) (t : Tree) → getD f 0 0 ≡ getD g 0 0 → getD f 1 0 ≡ getD g 1 0 → Edit.insert i b f t ≡ Edit.insert i b g t
+pub insert-taken : (i : ℕ) (b : Bool) (f g : List ℕ) (t : Tree) → getD f 0 0 ≡ getD g 0 0 → getD f 1 0 ≡ getD g 1 0
+    → Edit.insert i b f t ≡ Edit.insert i b g t
 unfolding Edit.insert
 insert-taken i b f g (leaf n xs) first second = settle-taken n (Marks.insert i b xs) f g first second
 insert-taken i b f g (fork n l r) first second =
@@ -139,7 +139,8 @@ insert-wider i b p q h w =
     (λ _. alike _ _ refl refl (room-wider room)))
   where
     split-wider : 2 ≤ length (p .free)
-        → Wider (record { tree = Edit.insert i b (p .free) (p .tree); free = drop 2 (p .free) }) (record { tree = Edit.insert i b (q .free) (q .tree); free = drop 2 (q .free) })
+        → Wider (record { tree = Edit.insert i b (p .free) (p .tree); free = drop 2 (p .free) })
+        (record { tree = Edit.insert i b (q .free) (q .tree); free = drop 2 (q .free) })
     split-wider two =
         let k = first-two (p .free) (w .more) two in
         record {
@@ -149,7 +150,8 @@ insert-wider i b p q h w =
         }
 
     room-wider : splits i (p .tree) ≡ false
-        → Wider (record { tree = Edit.insert i b (p .free) (p .tree); free = p .free }) (record { tree = Edit.insert i b (q .free) (q .tree); free = q .free })
+        → Wider (record { tree = Edit.insert i b (p .free) (p .tree); free = p .free })
+        (record { tree = Edit.insert i b (q .free) (q .tree); free = q .free })
     room-wider room =
         record {
           more = w .more;

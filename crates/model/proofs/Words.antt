@@ -1,7 +1,7 @@
 -- A number and the list of its bits: halving the number takes off the lowest bit, so shifts are drops, masks are takes, and a number below
 -- 2 ^ n is told by its n lowest bits.
 use Prim.Native.Nat.{ℕ, zero, suc, _+_, _-_, _*_, _/_, _%_, _^_, _≤_, _<_}
-use native.Mathlib.Nat.{zero-add, suc-add, add-zero, mod-lt, mod-eq-of-lt, div-one, pow-suc, div-eq-of-lt, mul-assoc, add-mul, add-assoc, zero-lt-suc}
+use native.Mathlib.Nat.{zero-add, suc-add, mod-lt, div-one, pow-suc, zero-lt-suc}
 use native.Mathlib.Numerals.{add-one, one-add}
 use native.Mathlib.Omega.{arith}
 use mathlib.Core.Path.{_≡_, refl, sym, ap, ap₂, _∙_}
@@ -14,7 +14,7 @@ use lib.ListN.{length, take, drop, getD, replicate}
 use lib.Seq.{drop-at}
 use lib.Pow.{pow-pos, shr-shr, mod-mod-pow, field, mod-pow-add}
 use Rattle.model.specs.Marks.{ones}
-use Rattle.model.specs.Word.{odd, bits, digit, number}
+use Rattle.model.specs.Word.{odd, bits, digit, number, words-of}
 
 -- ---- one bit
 
@@ -48,7 +48,9 @@ bits-length (suc n) w = ap suc (bits-length n (w / 2))
 pub bits-add : (n m w : ℕ) → bits (n + m) w ≡ bits n w ++ bits m (w / 2 ^ n)
 unfolding bits
 bits-add zero m w = rw (zero-add, div-one)
-bits-add (suc n) m w = rw suc-add (ap {B = List Bool} (λ r. odd w ∷ r) (bits-add n m (w / 2) ∙ ap (λ (x : ℕ). bits n (w / 2) ++ bits m x) (shr-shr w 1 n ∙ ap (λ (x : ℕ). w / 2 ^ x) (one-add n))))
+bits-add (suc n) m w =
+    let above : w / 2 / 2 ^ n ≡ w / 2 ^ suc n = shr-shr w 1 n ∙ ap (λ (x : ℕ). w / 2 ^ x) (one-add n) in
+    rw suc-add (ap {B = List Bool} (λ r. odd w ∷ r) (bits-add n m (w / 2) ∙ ap (λ (x : ℕ). bits n (w / 2) ++ bits m x) above))
 
 -- only the n lowest digits matter
 pub bits-mod : (n w : ℕ) → bits n (w % 2 ^ n) ≡ bits n w
@@ -117,12 +119,14 @@ number-append (b ∷ xs) ys = rw (pow-suc 2 (length xs)) (let h = number-append 
 pub number-bits : (n w : ℕ) → number (bits n w) ≡ w % 2 ^ n
 unfolding bits number
 number-bits zero w = omega arith
-number-bits (suc n) w = ap₂ (λ (x y : ℕ). x * 2 + y) (number-bits n (w / 2)) (digit-odd w) ∙ sym (mod-pow-add w n 1) ∙ ap (λ (x : ℕ). w % 2 ^ x) (add-one n)
+number-bits (suc n) w =
+    ap₂ (λ (x y : ℕ). x * 2 + y) (number-bits n (w / 2)) (digit-odd w) ∙ sym (mod-pow-add w n 1) ∙ ap (λ (x : ℕ). w % 2 ^ x) (add-one n)
 
 pub bits-number : (xs : List Bool) → bits (length xs) (number xs) ≡ xs
 unfolding bits number
 bits-number [] = refl
-bits-number (b ∷ xs) = ap₂ {C = List Bool} (λ x r. x ∷ r) (odd-digit (number xs) b) (ap (bits (length xs)) (digits-div (number xs) (digit-lt b)) ∙ bits-number xs)
+bits-number (b ∷ xs) =
+    ap₂ {C = List Bool} (λ x r. x ∷ r) (odd-digit (number xs) b) (ap (bits (length xs)) (digits-div (number xs) (digit-lt b)) ∙ bits-number xs)
 
 -- ---- counts
 
@@ -141,3 +145,10 @@ ones-below (suc n) w h =
 -- the set bits are those that the machine's count of ones counts
 pub ones-bits : (n w : ℕ) → ones (bits n w) ≡ Count.ones (w % 2 ^ n)
 ones-bits n w = rw (← bits-mod n w) (ones-below n (w % 2 ^ n) (mod-lt w (pow-pos n)))
+
+-- ---- words of marks
+
+pub words-length : (k : ℕ) (xs : List Bool) → length (words-of k xs) ≡ k
+unfolding words-of
+words-length zero xs = refl
+words-length (suc k) xs = ap suc (words-length k (drop 64 xs))

@@ -1,5 +1,5 @@
--- The reference cases R1 to R14 of the scope, as one table: each row is a question to the model and the answer that the
--- scope gives. An answer is a list of numbers; the empty list says that there is none.
+-- The reference cases R1 to R14 of docs/REFERENCE.md, as one table: each row is a question to the model and its answer.
+-- An answer is a list of numbers; the empty list says that there is none.
 use Prim.Native.Nat.{ℕ, zero, suc, _+_, _-_, _^_}
 use mathlib.Core.Bool.{Bool, true, false, _&&_}
 use mathlib.Core.List.{List, [], _∷_, _++_, map}
@@ -60,7 +60,8 @@ unfoldable pub turns : Tree → Tree → List ℕ
 turns before (leaf n xs) = []
 turns before (fork n a (leaf m xs)) = []
 turns before (fork n a (fork m c e)) =
-    ((height e + 2) - height c) ∷ ((height (fork m c e) + 2) - height a) ∷ height (fork n a (fork m c e)) ∷ height before ∷ []
+    let t : Tree = fork m c e in
+    ((height e + 2) - height c) ∷ ((height t + 2) - height a) ∷ height (fork n a t) ∷ height before ∷ []
 
 unfoldable pub lone-pool : ℕ → ℕ → Pool.Pool
 lone-pool nodes n = record { tree = leaf 0 (quiet n); free = Pool.numbers-from 1 (nodes - 1) }
@@ -69,8 +70,12 @@ unfoldable pub answer : Question → List ℕ
 answer (place-in-word w b k) = found (select b k (bits 64 w))
 answer (built-leaves nodes n) = sizes-of (Pool.build nodes (quiet n))
 answer (built-shape n) = shape (Build.build (quiet n))
-answer (inserted nodes n) = let p : Pool.Pool = lone-pool nodes n in sizes-of (Pool.insert (Pool.two-free p) 0 false p)
-answer (removed l r i) = sizes ((Pool.remove i (record { tree = fork 2 (leaf 0 (quiet l)) (leaf 1 (quiet r)); free = [] })) .tree)
+answer (inserted nodes n) =
+    let p : Pool.Pool = lone-pool nodes n in
+    sizes-of (Pool.insert (Pool.two-free p) 0 false p)
+answer (removed l r i) =
+    let p : Pool.Pool = record { tree = fork 2 (leaf 0 (quiet l)) (leaf 1 (quiet r)); free = [] } in
+    sizes ((Pool.remove i p) .tree)
 answer (turned a c e) = let t : Tree = fork 0 (fork 1 (tall a) (tall c)) (tall e) in turns t (turn-right t)
 
 -- ---- the table

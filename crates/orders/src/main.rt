@@ -28,12 +28,12 @@ fn play_all(input: &[u8], pool: &mut [u64; 6144], out: &mut [u8; 17408])
     let mut at = 0;
     let mut nodes = 0;
     while at < input.len() {
-        let turn = play(input, at, nodes, pool, out);
-        if !write(out, turn.end) {
+        let next = play(input, at, nodes, pool, out);
+        if !write(out, next.end) {
             return;
         }
-        at = turn.at;
-        nodes = turn.nodes;
+        at = next.at;
+        nodes = next.nodes;
     }
 }
 

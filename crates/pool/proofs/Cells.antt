@@ -11,7 +11,8 @@ use lib.Dec.{ltb}
 use lib.ListN.{length, getD, set, length-set}
 use lib.Seq.{sets, length-sets, getD-set-same, getD-set-other, set-getD, ext-getD}
 use Rattle.bits.specs.declared.leaf.Leaf.{Leaf}
-use Rattle.pool.specs.Node.{LeafOrFork, free-cell, leaf-cell, fork-cell, of-kind, node-of, nodes-in, cell-at, node-at, put, Put}
+use Rattle.pool.specs.Node.{LeafOrFork, OfTree, balance-in, free-cell, leaf-cell, leaf-words, fork-cell, fork-words, of-kind, node-of}
+use Rattle.pool.specs.Node.{nodes-in, cell-at, node-at, put, put-node, Put}
 use Rattle.pool.specs.declared.node.Cell.{Cell}
 use Rattle.pool.specs.declared.node.Fork.{Fork}
 use Rattle.pool.specs.declared.node.Node.{Node}
@@ -42,18 +43,18 @@ module _ (w : List ℕ) (n : ℕ) where
 -- ---- a cell by its words
 
 abbrev words : Cell → List ℕ
-words x = x .kind ∷ x .a ∷ x .b ∷ x .c ∷ x .d ∷ x .e ∷ []
+words x = x .kind ∷ x .second ∷ x .third ∷ x .fourth ∷ x .fifth ∷ x .sixth ∷ []
 
 -- cells with the same words are the same
 cell-same : (x y : Cell) → ((j : ℕ) → j < 6 → getD (words x) j 0 ≡ getD (words y) j 0) → x ≡ y
 cell-same x y h i =
     record {
       kind = h 0 (omega arith) i;
-      a = h 1 (omega arith) i;
-      b = h 2 (omega arith) i;
-      c = h 3 (omega arith) i;
-      d = h 4 (omega arith) i;
-      e = h 5 (omega arith) i;
+      second = h 1 (omega arith) i;
+      third = h 2 (omega arith) i;
+      fourth = h 3 (omega arith) i;
+      fifth = h 4 (omega arith) i;
+      sixth = h 5 (omega arith) i;
     }
 
 -- word j of node n stands at 6 n + j
@@ -105,7 +106,8 @@ module _ (w : List ℕ) (n : ℕ) (x : Cell) where
   pub cell-here : n < nodes-in w → cell-at (put w n x) n ≡ x
   cell-here h =
       cell-same (cell-at (put w n x) n) x
-      (λ j l. word-at (put w n x) n j l ∙ ap (λ (v : List ℕ). getD v (n * 6 + j) 0) (put-in w n x h) ∙ getD-sets-in w (n * 6) (words x) j l (omega arith))
+      (λ j l. word-at (put w n x) n j l ∙ ap (λ (v : List ℕ). getD v (n * 6 + j) 0) (put-in w n x h)
+      ∙ getD-sets-in w (n * 6) (words x) j l (omega arith))
 
   pub cell-else : (k : ℕ) → (k ≡ n → ⊥) → cell-at (put w n x) k ≡ cell-at w k
   cell-else k ne =
@@ -144,14 +146,16 @@ put-keeps p = ap (λ (m : ℕ). m / 6) (p .size)
 -- ---- what a node says of its words
 
 -- the words of a node; a broken one has none of its own
-abbrev cell-of : Node → Cell
+abbrev pub cell-of : Node → Cell
 cell-of (free k) = free-cell k
 cell-of (leaf l) = leaf-cell l
 cell-of (fork f) = fork-cell f
 cell-of broken = free-cell 0
 
 -- six words that are no broken node are that node's own
-laid-out : (k a b c d e : ℕ) → let x : Cell = record { kind = k; a = a; b = b; c = c; d = d; e = e } in (of-kind k x ≡ broken → ⊥) → x ≡ cell-of (of-kind k x)
+laid-out : (k a b c d e : ℕ)
+    → let x : Cell = record { kind = k; second = a; third = b; fourth = c; fifth = d; sixth = e } in
+    (of-kind k x ≡ broken → ⊥) → x ≡ cell-of (of-kind k x)
 laid-out zero a zero zero zero zero h = refl
 laid-out zero a zero zero zero (suc e) h = absurd (h refl)
 laid-out zero a zero zero (suc d) e h = absurd (h refl)
@@ -168,8 +172,11 @@ module _ (w : List ℕ) (n : ℕ) where
   said : (node-at w n ≡ broken → ⊥) → (n < nodes-in w) × (cell-at w n ≡ cell-of (node-at w n))
   said ne =
       ⊎-elim
-      (λ h. let x = cell-at w n in
-      (h, laid-out (x .kind) (x .a) (x .b) (x .c) (x .d) (x .e) (λ e. ne (node-in w n h ∙ e)) ∙ ap cell-of (sym (node-in w n h))))
+      (λ h. let x = cell-at w n in (
+        h,
+        laid-out (x .kind) (x .second) (x .third) (x .fourth) (x .fifth) (x .sixth) (λ e. ne (node-in w n h ∙ e))
+            ∙ ap cell-of (sym (node-in w n h)),
+      ))
       (λ h. absurd (ne (node-out w n h)))
       (below-or-not n (nodes-in w))
 
@@ -185,34 +192,54 @@ module _ (w : List ℕ) (n : ℕ) where
   pub free-says : (k : ℕ) → node-at w n ≡ free k → (n < nodes-in w) × (cell-at w n ≡ free-cell k)
   free-says k = says (free k) (λ b. let z : _≡_ {A = ℕ} 0 1 = cc in omega arith)
 
--- ---- a leaf or a fork, told apart by one word
+-- ---- a leaf or a fork
+
+pub of-tree : (x : Node) → LeafOrFork x → OfTree x
+of-tree (leaf l) h = tt
+of-tree (fork f) h = tt
+of-tree (free k) h = absurd h
+of-tree broken h = absurd h
 
 module _ (w : List ℕ) (n : ℕ) where
   -- a leaf's or a fork's words stand at its number
-  leaf-or-fork-says : (x : Node) → node-at w n ≡ x → LeafOrFork x → (n < nodes-in w) × (cell-at w n ≡ cell-of x)
-  leaf-or-fork-says (leaf l) e h = leaf-says w n l e
-  leaf-or-fork-says (fork f) e h = fork-says w n f e
-  leaf-or-fork-says (free k) e h = absurd h
-  leaf-or-fork-says broken e h = absurd h
+  tree-node-says : (x : Node) → node-at w n ≡ x → OfTree x → (n < nodes-in w) × (cell-at w n ≡ cell-of x)
+  tree-node-says (leaf l) e h = leaf-says w n l e
+  tree-node-says (fork f) e h = fork-says w n f e
+  tree-node-says (free k) e h = absurd h
+  tree-node-says broken e h = absurd h
 
-  pub leaf-or-fork-in : LeafOrFork (node-at w n) → n < nodes-in w
-  leaf-or-fork-in h = leaf-or-fork-says (node-at w n) refl h .0
+  pub tree-node-in : OfTree (node-at w n) → n < nodes-in w
+  tree-node-in h = tree-node-says (node-at w n) refl h .0
 
-  pub leaf-or-fork-cell : LeafOrFork (node-at w n) → cell-at w n ≡ cell-of (node-at w n)
-  leaf-or-fork-cell h = leaf-or-fork-says (node-at w n) refl h .1
+  pub tree-node-cell : OfTree (node-at w n) → cell-at w n ≡ cell-of (node-at w n)
+  tree-node-cell h = tree-node-says (node-at w n) refl h .1
 
 -- the word that counts a left child's marks is 0 in a leaf, and not in a fork
-pub told-leaf : (x : Cell) (y : Node) → LeafOrFork y → x ≡ cell-of y → x .c ≡ 0 → leaf (record { low = x .a; high = x .b }) ≡ y
-told-leaf x (leaf l) h e z = ap (λ (u : Cell). leaf (record { low = u .a; high = u .b })) e
-told-leaf x (fork f) h e z = absurd (omega (arith, ap (λ (u : Cell). u .c) e))
-told-leaf x (free k) h e z = absurd h
-told-leaf x broken h e z = absurd h
+pub a-leaf : (x : Cell) (y : Node) → LeafOrFork y → x ≡ cell-of y → x .fourth ≡ 0 → leaf (leaf-words x) ≡ y
+a-leaf x (leaf l) h e z = ap (λ (u : Cell). leaf (leaf-words u)) e
+a-leaf x (fork f) h e z = absurd (omega (arith, ap (λ (u : Cell). u .fourth) e))
+a-leaf x (free k) h e z = absurd h
+a-leaf x broken h e z = absurd h
 
-pub told-fork : (x : Cell) (y : Node) → LeafOrFork y → x ≡ cell-of y → 1 ≤ x .c → of-kind 2 x ≡ y
-told-fork x (leaf l) h e z = absurd (omega (arith, ap (λ (u : Cell). u .c) e))
-told-fork x (fork f) h e z = ap (of-kind 2) e
-told-fork x (free k) h e z = absurd h
-told-fork x broken h e z = absurd h
+pub a-fork : (x : Cell) (y : Node) → LeafOrFork y → x ≡ cell-of y → 1 ≤ x .fourth → fork (fork-words x) ≡ y
+a-fork x (leaf l) h e z = absurd (omega (arith, ap (λ (u : Cell). u .fourth) e))
+a-fork x (fork f) h e z = ap (λ (u : Cell). fork (fork-words u)) e
+a-fork x (free k) h e z = absurd h
+a-fork x broken h e z = absurd h
+
+-- a leaf's sixth word is 0, and a fork's its balance
+pub a-balance : (y : Node) → OfTree y → cell-of y .sixth ≡ balance-in y
+a-balance (leaf l) h = refl
+a-balance (fork f) h = refl
+a-balance (free k) h = absurd h
+a-balance broken h = absurd h
+
+-- a tree's node is put by putting its words
+pub put-words : (w : List ℕ) (n : ℕ) (y : Node) → OfTree y → put w n (cell-of y) ≡ put-node w n y
+put-words w n (leaf l) h = refl
+put-words w n (fork f) h = refl
+put-words w n (free k) h = absurd h
+put-words w n broken h = absurd h
 
 -- ---- two words of a fork
 
@@ -229,12 +256,12 @@ put-left w n f total ones e =
     let s = fork-says w n f e in
     let v : List ℕ = set (set w (n * 6 + 3) total) (n * 6 + 4) ones in
     let e0 : set w (n * 6) 2 ≡ w = kept w (n * 6) 2 (ap (λ (x : Cell). x .kind) (s .1)) in
-    let e1 : set w (n * 6 + 1) (f .left) ≡ w = kept w (n * 6 + 1) (f .left) (ap (λ (x : Cell). x .a) (s .1)) in
-    let e2 : set w (n * 6 + 2) (f .right) ≡ w = kept w (n * 6 + 2) (f .right) (ap (λ (x : Cell). x .b) (s .1)) in
+    let e1 : set w (n * 6 + 1) (f .left) ≡ w = kept w (n * 6 + 1) (f .left) (ap (λ (x : Cell). x .second) (s .1)) in
+    let e2 : set w (n * 6 + 2) (f .right) ≡ w = kept w (n * 6 + 2) (f .right) (ap (λ (x : Cell). x .third) (s .1)) in
     let e5 : set v (n * 6 + 5) (f .balance) ≡ v =
     kept v (n * 6 + 5) (f .balance)
     (getD-set-other (set w (n * 6 + 3) total) (n * 6 + 4) (n * 6 + 5) ones 0 (λ q. omega arith)
-    ∙ getD-set-other w (n * 6 + 3) (n * 6 + 5) total 0 (λ q. omega arith) ∙ ap (λ (x : Cell). x .e) (s .1)) in
+    ∙ getD-set-other w (n * 6 + 3) (n * 6 + 5) total 0 (λ q. omega arith) ∙ ap (λ (x : Cell). x .sixth) (s .1)) in
     rw (put, lt-ltb n (nodes-in w) (s .0), e0, e1, e2, e5)
 
 -- ---- words of whole nodes

@@ -32,7 +32,8 @@ both-node end t ns k m =
     (List·Memᴰ·append-cases (numbers t) m)
 
 -- two edits of whole words to one tree and one chain, at their own numbers, leave the same words
-pub edited-chained-once : {w u v ms : List ℕ} {t : Tree} (n end : ℕ) (ns : List ℕ) → Whole n w → ((k : ℕ) → List·Memᴰ k ms → List·Memᴰ k (numbers t ++ ns))
+pub edited-chained-once : {w u v ms : List ℕ} {t : Tree} (n end : ℕ) (ns : List ℕ) → Whole n w
+    → ((k : ℕ) → List·Memᴰ k ms → List·Memᴰ k (numbers t ++ ns))
     → Edited w u ms t → Chained u end ns → Edited w v ms t → Chained v end ns → u ≡ v
 edited-chained-once {w} {u} {v} {ms} {t} n end ns whole own d du e ev =
     same-nodes n u v (d .size ∙ whole .words) (e .size ∙ whole .words)

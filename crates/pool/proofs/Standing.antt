@@ -32,7 +32,8 @@ holds-same w w′ (Tree.fork n l r) same h = (
   holds-same w w′ r (λ k m. same k (List·Memᴰ·tail (Memᴰ·append-right (numbers l) m))) (h .2),
 )
 
-pub chained-same : (w w′ : List ℕ) (end : ℕ) (ns : List ℕ) → ((k : ℕ) → List·Memᴰ k ns → node-at w′ k ≡ node-at w k) → Chained w end ns → Chained w′ end ns
+pub chained-same : (w w′ : List ℕ) (end : ℕ) (ns : List ℕ) → ((k : ℕ) → List·Memᴰ k ns → node-at w′ k ≡ node-at w k) → Chained w end ns
+    → Chained w′ end ns
 chained-same w w′ end [] same h = tt
 chained-same w w′ end (n ∷ ns) same h = (same n (List·Memᴰ·head refl) ∙ h .0, chained-same w w′ end ns (λ k m. same k (List·Memᴰ·tail m)) (h .1))
 
@@ -65,12 +66,14 @@ holds-one w (Tree.fork n l r) (Tree.fork m l′ r′) s v e z h k =
     let both : fork-of l r ≡ fork-of l′ r′ = cc in
     let left : size l ≡ size l′ = ap (λ (f : Fork). f .«left_total») both in
     let first : l ≡ l′ =
-    holds-one w l l′ (sized-weaken 0 33 l (omega arith) (s .0)) (sized-weaken 0 33 l′ (omega arith) (v .0)) (ap (λ (f : Fork). f .left) both) left (h .1) (k .1) in
+    holds-one w l l′ (sized-weaken 0 33 l (omega arith) (s .0)) (sized-weaken 0 33 l′ (omega arith) (v .0)) (ap (λ (f : Fork). f .left) both) left
+    (h .1) (k .1) in
     let second : r ≡ r′ = holds-one w r r′ (s .1) (v .1) (ap (λ (f : Fork). f .right) both) (omega arith) (h .2) (k .2) in
     λ i. Tree.fork (e i) (first i) (second i)
 
 -- two chains in the same words that begin alike and are as long are the same
-pub chained-one : (w : List ℕ) (end : ℕ) (ms ns : List ℕ) → first-of end ms ≡ first-of end ns → length ms ≡ length ns → Chained w end ms → Chained w end ns → ms ≡ ns
+pub chained-one : (w : List ℕ) (end : ℕ) (ms ns : List ℕ) → first-of end ms ≡ first-of end ns → length ms ≡ length ns → Chained w end ms
+    → Chained w end ns → ms ≡ ns
 unfolding first-of
 chained-one w end [] [] e l h k = refl
 chained-one w end [] (n ∷ ns) e l h k = absurd (omega arith)

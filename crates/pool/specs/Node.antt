@@ -13,6 +13,8 @@ use Rattle.bits.specs.declared.leaf.Leaf.{Leaf}
 use Rattle.pool.specs.declared.node.Cell.{Cell}
 use Rattle.pool.specs.declared.node.Fork.{Fork}
 use Rattle.pool.specs.declared.node.Node.{Node}
+use Rattle.pool.specs.declared.node.TreeNode.{TreeNode}
+use Rattle.pool.specs.declared.node.TreeNode.the-variants.{Leaf as TreeNode·Leaf, Fork as TreeNode·Fork}
 use Rattle.pool.specs.declared.node.Node.the-variants.{Free as free, Leaf as leaf, Fork as fork, Broken as broken}
 
 -- the words of a node
@@ -22,13 +24,29 @@ node-words = 6
 -- ---- a node in six words
 
 abbrev pub free-cell : ℕ → Cell
-free-cell next = record { kind = 0; a = next; b = 0; c = 0; d = 0; e = 0 }
+free-cell next = record { kind = 0; second = next; third = 0; fourth = 0; fifth = 0; sixth = 0 }
 
 abbrev pub leaf-cell : Leaf → Cell
-leaf-cell l = record { kind = 1; a = l .low; b = l .high; c = 0; d = 0; e = 0 }
+leaf-cell l = record { kind = 1; second = l .low; third = l .high; fourth = 0; fifth = 0; sixth = 0 }
 
 abbrev pub fork-cell : Fork → Cell
-fork-cell f = record { kind = 2; a = f .left; b = f .right; c = f .«left_total»; d = f .«left_ones»; e = f .balance }
+fork-cell f =
+    record {
+      kind = 2;
+      second = f .left;
+      third = f .right;
+      fourth = f .«left_total»;
+      fifth = f .«left_ones»;
+      sixth = f .balance;
+    }
+
+-- the leaf that six words hold, and the fork
+abbrev pub leaf-words : Cell → Leaf
+leaf-words w = record { low = w .second; high = w .third }
+
+abbrev pub fork-words : Cell → Fork
+fork-words w =
+    record { left = w .second; right = w .third; «left_total» = w .fourth; «left_ones» = w .fifth; balance = w .sixth }
 
 -- a node, if the word beside it is zero
 abbrev pub if-zero : ℕ → Node → Node
@@ -37,9 +55,9 @@ if-zero (suc n) x = broken
 
 -- what six words are laid out as, by the first of them
 abbrev pub of-kind : ℕ → Cell → Node
-of-kind zero w = if-zero (w .b) (if-zero (w .c) (if-zero (w .d) (if-zero (w .e) (free (w .a)))))
-of-kind (suc zero) w = if-zero (w .c) (if-zero (w .d) (if-zero (w .e) (leaf (record { low = w .a; high = w .b }))))
-of-kind (suc (suc zero)) w = fork (record { left = w .a; right = w .b; «left_total» = w .c; «left_ones» = w .d; balance = w .e })
+of-kind zero w = if-zero (w .third) (if-zero (w .fourth) (if-zero (w .fifth) (if-zero (w .sixth) (free (w .second)))))
+of-kind (suc zero) w = if-zero (w .fourth) (if-zero (w .fifth) (if-zero (w .sixth) (leaf (leaf-words w))))
+of-kind (suc (suc zero)) w = fork (fork-words w)
 of-kind (suc (suc (suc k))) w = broken
 
 abbrev pub node-of : Cell → Node
@@ -56,11 +74,11 @@ abbrev pub cell-at : List ℕ → ℕ → Cell
 cell-at w n =
     record {
       kind = getD w (n * node-words) 0;
-      a = getD w (n * node-words + 1) 0;
-      b = getD w (n * node-words + 2) 0;
-      c = getD w (n * node-words + 3) 0;
-      d = getD w (n * node-words + 4) 0;
-      e = getD w (n * node-words + 5) 0;
+      second = getD w (n * node-words + 1) 0;
+      third = getD w (n * node-words + 2) 0;
+      fourth = getD w (n * node-words + 3) 0;
+      fifth = getD w (n * node-words + 4) 0;
+      sixth = getD w (n * node-words + 5) 0;
     }
 
 -- node n, or that there is none
@@ -72,14 +90,29 @@ unfoldable pub put : List ℕ → ℕ → Cell → List ℕ
 put w n x =
     let at : ℕ = n * node-words in
     elim (ltb n (nodes-in w)) [
-      | true ↦ set (set (set (set (set (set w at (x .kind)) (at + 1) (x .a)) (at + 2) (x .b)) (at + 3) (x .c)) (at + 4) (x .d)) (at + 5) (x .e)
+      | true ↦
+          let w1 : List ℕ = set (set w at (x .kind)) (at + 1) (x .second) in
+          let w2 : List ℕ = set (set w1 (at + 2) (x .third)) (at + 3) (x .fourth) in
+          set (set w2 (at + 4) (x .fifth)) (at + 5) (x .sixth)
       | false ↦ w
     ]
 
 -- a fork whose left child has so many marks less, so many of them strikes
 abbrev pub less-left : Fork → ℕ → ℕ → Fork
 less-left f total ones =
-    record { left = f .left; right = f .right; «left_total» = f .«left_total» - total; «left_ones» = f .«left_ones» - ones; balance = f .balance }
+    record {
+      left = f .left;
+      right = f .right;
+      «left_total» = f .«left_total» - total;
+      «left_ones» = f .«left_ones» - ones;
+      balance = f .balance;
+    }
+
+-- the words with the fourth and the fifth of node n lowered by so much
+abbrev pub lowered : List ℕ → ℕ → ℕ → ℕ → List ℕ
+lowered w n total ones =
+    let at : ℕ = n * node-words in
+    set (set w (at + 3) (cell-at w n .fourth - total)) (at + 4) (cell-at w n .fifth - ones)
 
 -- all that is known of a store: w′ is w but for node n, which is x in it
 pub record Put (w w′ : List ℕ) (n : ℕ) (x : Node) : Type 0 where
@@ -88,6 +121,18 @@ pub record Put (w w′ : List ℕ) (n : ℕ) (x : Node) : Type 0 where
   pub else : (k : ℕ) → (k ≡ n → ⊥) → node-at w′ k ≡ node-at w k
 
 -- ---- the readers' answers
+
+-- a tree's node, as a node
+abbrev pub as-node : TreeNode → Node
+as-node (TreeNode·Leaf l) = leaf l
+as-node (TreeNode·Fork f) = fork f
+
+-- a leaf or a fork
+abbrev pub OfTree : Node → Type 0
+OfTree (leaf l) = Unit {0}
+OfTree (fork f) = Unit {0}
+OfTree (free k) = ⊥
+OfTree broken = ⊥
 
 -- a leaf, or a fork whose left child has a mark
 abbrev pub LeafOrFork : Node → Type 0
@@ -109,6 +154,13 @@ fork-in (fork f) = f
 fork-in (free k) = record { left = 0; right = 0; «left_total» = 0; «left_ones» = 0; balance = 2 }
 fork-in (leaf l) = record { left = 0; right = 0; «left_total» = 0; «left_ones» = 0; balance = 2 }
 fork-in broken = record { left = 0; right = 0; «left_total» = 0; «left_ones» = 0; balance = 2 }
+
+-- the balance that a fork stores, and 0 of any other node
+abbrev pub balance-in : Node → ℕ
+balance-in (fork f) = f .balance
+balance-in (leaf l) = 0
+balance-in (free k) = 0
+balance-in broken = 0
 
 -- the number after a node in the chain, and the chain's end after a node that is not free
 abbrev pub next-in : ℕ → Node → ℕ

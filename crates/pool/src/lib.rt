@@ -4,14 +4,17 @@ mod chain;
 mod node;
 
 pub use chain::Chain;
-pub use chain::next_free;
 pub use node::Fork;
+pub use node::NODE_WORDS;
 pub use node::Node;
+pub use node::TreeNode;
+pub use node::balance_at;
 pub use node::fork_at;
 pub use node::leaf_at;
 pub use node::leaf_or_fork;
 pub use node::less_left;
 pub use node::move_node;
+pub use node::next_free;
 pub use node::node_at;
 pub use node::node_count;
 pub use node::set_fork;

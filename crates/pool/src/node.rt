@@ -1,19 +1,20 @@
-// A node of the pool, read from its six words and written to them. Readers and writers take any words and any number:
-// where there is no such node, or its words are not laid out as one, a reader says so and a writer does nothing. Two
-// shorter ways are for callers who know what stands at n: `leaf_or_fork` reads a node of a tree, and `less_left` writes
-// two words of a fork.
+// A node of the pool, read from its six words and written to them. `node_at` and the writers take any words and any
+// number: where there is no such node, or its words are not laid out as one, it says so, and they do nothing. Shorter
+// ways are for callers who know what stands at n: the other readers test no word that they need not, and `less_left`
+// writes two words of a fork.
 //
 //     free        0, next free number, 0, 0, 0, 0
 //     leaf        1, low word, high word, 0, 0, 0
 //     fork        2, left, right, left total, left ones, balance + 2
 use bits::Leaf;
 ghost use mathlib.Core.Path.{_≡_};
-ghost use Prim.Native.Nat.{_+_, _-_, _*_, _<_, _≤_};
-ghost use lib.ListN.{getD, set};
-ghost use Rattle.pool.specs.Node.{LeafOrFork, cell-at, fork-cell, fork-in, free-cell, if-zero, leaf-cell, leaf-in, less-left, node-at, node-of, nodes-in, of-kind, put, put-node};
+ghost use Prim.Native.Nat.{ℕ, _<_, _≤_};
+ghost use Rattle.pool.specs.Node.{LeafOrFork, OfTree, as-node, balance-in, cell-at, fork-cell, fork-in};
+ghost use Rattle.pool.specs.Node.{fork-words, free-cell, if-zero, leaf-cell, leaf-in, leaf-words, less-left};
+ghost use Rattle.pool.specs.Node.{lowered, next-in, node-at, node-of, nodes-in, of-kind, put, put-node};
 
 // The words of a node.
-const NODE_WORDS: u64 = 6;
+pub const NODE_WORDS: u64 = 6;
 
 const FREE: u64 = 0;
 
@@ -38,14 +39,20 @@ pub enum Node {
     Broken,
 }
 
+// A node of a tree.
+pub enum TreeNode {
+    Leaf(Leaf),
+    Fork(Fork),
+}
+
 // The six words of a node as they stand.
 struct Cell {
     kind: u64,
-    a: u64,
-    b: u64,
-    c: u64,
-    d: u64,
-    e: u64,
+    second: u64,
+    third: u64,
+    fourth: u64,
+    fifth: u64,
+    sixth: u64,
 }
 
 // How many nodes these words have room for.
@@ -63,11 +70,11 @@ fn cell_at(nodes: &[u64], n: u64) -> Cell
     let at = (n * NODE_WORDS) as usize;
     Cell {
         kind: nodes[at],
-        a: nodes[at + 1],
-        b: nodes[at + 2],
-        c: nodes[at + 3],
-        d: nodes[at + 4],
-        e: nodes[at + 5],
+        second: nodes[at + 1],
+        third: nodes[at + 2],
+        fourth: nodes[at + 3],
+        fifth: nodes[at + 4],
+        sixth: nodes[at + 5],
     }
 }
 
@@ -78,11 +85,33 @@ fn put_cell(nodes: &mut [u64], n: u64, cell: Cell)
     if n < node_count(nodes) {
         let at = (n * NODE_WORDS) as usize;
         nodes[at] = cell.kind;
-        nodes[at + 1] = cell.a;
-        nodes[at + 2] = cell.b;
-        nodes[at + 3] = cell.c;
-        nodes[at + 4] = cell.d;
-        nodes[at + 5] = cell.e;
+        nodes[at + 1] = cell.second;
+        nodes[at + 2] = cell.third;
+        nodes[at + 3] = cell.fourth;
+        nodes[at + 4] = cell.fifth;
+        nodes[at + 5] = cell.sixth;
+    }
+}
+
+// The leaf that six words hold, and the fork.
+fn leaf_in(cell: Cell) -> Leaf
+    ensures { λ r. ⌜ r ≡ leaf-words cell ⌝ }
+{
+    Leaf {
+        low: cell.second,
+        high: cell.third,
+    }
+}
+
+fn fork_in(cell: Cell) -> Fork
+    ensures { λ r. ⌜ r ≡ fork-words cell ⌝ }
+{
+    Fork {
+        left: cell.second,
+        right: cell.third,
+        left_total: cell.fourth,
+        left_ones: cell.fifth,
+        balance: cell.sixth,
     }
 }
 
@@ -99,35 +128,18 @@ fn if_zero(word: u64, node: Node) -> Node
 fn free_of(cell: Cell) -> Node
     ensures { λ r. ⌜ r ≡ of-kind 0 cell ⌝ }
 {
-    let node = Node::Free(cell.a);
+    let node = Node::Free(cell.second);
     if_zero(
-        cell.b,
-        if_zero(cell.c, if_zero(cell.d, if_zero(cell.e, node))),
+        cell.third,
+        if_zero(cell.fourth, if_zero(cell.fifth, if_zero(cell.sixth, node))),
     )
 }
 
 fn leaf_of(cell: Cell) -> Node
     ensures { λ r. ⌜ r ≡ of-kind 1 cell ⌝ }
 {
-    let leaf = Leaf {
-        low: cell.a,
-        high: cell.b,
-    };
-    let node = Node::Leaf(leaf);
-    if_zero(cell.c, if_zero(cell.d, if_zero(cell.e, node)))
-}
-
-fn fork_of(cell: Cell) -> Node
-    ensures { λ r. ⌜ r ≡ of-kind 2 cell ⌝ }
-{
-    let fork = Fork {
-        left: cell.a,
-        right: cell.b,
-        left_total: cell.c,
-        left_ones: cell.d,
-        balance: cell.e,
-    };
-    Node::Fork(fork)
+    let node = Node::Leaf(leaf_in(cell));
+    if_zero(cell.fourth, if_zero(cell.fifth, if_zero(cell.sixth, node)))
 }
 
 // What six words are laid out as.
@@ -138,7 +150,7 @@ fn node_of(cell: Cell) -> Node
     match kind {
         FREE => free_of(cell),
         LEAF => leaf_of(cell),
-        FORK => fork_of(cell),
+        FORK => Node::Fork(fork_in(cell)),
         _ => Node::Broken,
     }
 }
@@ -154,55 +166,49 @@ pub fn node_at(nodes: &[u64], n: u64) -> Node
 
 // The node at n, where that is a leaf or a fork whose left child has a mark. The word of a fork that counts those marks
 // is 0 in a leaf: it tells the two apart, and no other word is tested.
-pub fn leaf_or_fork(nodes: &[u64], n: u64) -> Node
+pub fn leaf_or_fork(nodes: &[u64], n: u64) -> TreeNode
     requires { ⌜ LeafOrFork (node-at (now nodes) n) ⌝ }
-    ensures { λ r. ⌜ r ≡ node-at (now (nodes .entry)) n ⌝ }
+    ensures { λ r. ⌜ as-node r ≡ node-at (now (nodes .entry)) n ⌝ }
 {
     let cell = cell_at(nodes, n);
-    if cell.c == 0 {
-        let leaf = Leaf {
-            low: cell.a,
-            high: cell.b,
-        };
-        return Node::Leaf(leaf);
+    if cell.fourth == 0 {
+        return TreeNode::Leaf(leaf_in(cell));
     }
-    fork_of(cell)
+    TreeNode::Fork(fork_in(cell))
 }
 
-// The leaf at n, an empty one where none is.
+// The leaf at n, where one stands there.
 pub fn leaf_at(nodes: &[u64], n: u64) -> Leaf
+    requires { ⌜ ((l : Leaf) × (node-at (now nodes) n ≡ Node.Leaf l)) ⌝ }
     ensures { λ r. ⌜ r ≡ leaf-in (node-at (now (nodes .entry)) n) ⌝ }
 {
-    match node_at(nodes, n) {
-        Node::Leaf(leaf) => leaf,
-        Node::Fork(_) => Leaf { low: 0, high: 0 },
-        Node::Free(_) => Leaf { low: 0, high: 0 },
-        Node::Broken => Leaf { low: 0, high: 0 },
-    }
+    leaf_in(cell_at(nodes, n))
 }
 
-fn no_fork() -> Fork
-    ensures { λ r. ⌜ r ≡ fork-in Node.Broken ⌝ }
-{
-    Fork {
-        left: 0,
-        right: 0,
-        left_total: 0,
-        left_ones: 0,
-        balance: 2,
-    }
-}
-
-// The fork at n, one of nothing where none is.
+// The fork at n, where one stands there.
 pub fn fork_at(nodes: &[u64], n: u64) -> Fork
+    requires { ⌜ ((f : Fork) × (node-at (now nodes) n ≡ Node.Fork f)) ⌝ }
     ensures { λ r. ⌜ r ≡ fork-in (node-at (now (nodes .entry)) n) ⌝ }
 {
-    match node_at(nodes, n) {
-        Node::Fork(fork) => fork,
-        Node::Leaf(_) => no_fork(),
-        Node::Free(_) => no_fork(),
-        Node::Broken => no_fork(),
-    }
+    fork_in(cell_at(nodes, n))
+}
+
+// The balance that the fork at n stores, and 0 where a leaf stands there.
+pub fn balance_at(nodes: &[u64], n: u64) -> u64
+    requires { ⌜ OfTree (node-at (now nodes) n) ⌝ }
+    ensures { λ r. ⌜ r ≡ balance-in (node-at (now (nodes .entry)) n) ⌝ }
+{
+    let cell = cell_at(nodes, n);
+    cell.sixth
+}
+
+// The number after n in the free chain, where a free node stands at n.
+pub fn next_free(nodes: &[u64], n: u64) -> u64
+    requires { ⌜ ((k : ℕ) × (node-at (now nodes) n ≡ Node.Free k)) ⌝ }
+    ensures { λ r. ⌜ r ≡ next-in (nodes-in (now (nodes .entry))) (node-at (now (nodes .entry)) n) ⌝ }
+{
+    let cell = cell_at(nodes, n);
+    cell.second
 }
 
 pub fn set_free(nodes: &mut [u64], n: u64, next: u64)
@@ -213,11 +219,11 @@ pub fn set_free(nodes: &mut [u64], n: u64, next: u64)
         n,
         Cell {
             kind: FREE,
-            a: next,
-            b: 0,
-            c: 0,
-            d: 0,
-            e: 0,
+            second: next,
+            third: 0,
+            fourth: 0,
+            fifth: 0,
+            sixth: 0,
         },
     );
 }
@@ -230,11 +236,11 @@ pub fn set_leaf(nodes: &mut [u64], n: u64, leaf: Leaf)
         n,
         Cell {
             kind: LEAF,
-            a: leaf.low,
-            b: leaf.high,
-            c: 0,
-            d: 0,
-            e: 0,
+            second: leaf.low,
+            third: leaf.high,
+            fourth: 0,
+            fifth: 0,
+            sixth: 0,
         },
     );
 }
@@ -247,19 +253,21 @@ pub fn set_fork(nodes: &mut [u64], n: u64, fork: Fork)
         n,
         Cell {
             kind: FORK,
-            a: fork.left,
-            b: fork.right,
-            c: fork.left_total,
-            d: fork.left_ones,
-            e: fork.balance,
+            second: fork.left,
+            third: fork.right,
+            fourth: fork.left_total,
+            fifth: fork.left_ones,
+            sixth: fork.balance,
         },
     );
 }
 
 // Lowers the fourth and the fifth word of node n.
 fn lower_left(nodes: &mut [u64], n: u64, total: u64, ones: u64)
-    requires { ⌜ (n < nodes-in (now nodes)) × (total ≤ getD (now nodes) (n * 6 + 3) 0) × (ones ≤ getD (now nodes) (n * 6 + 4) 0) ⌝ }
-    ensures { λ _. ⌜ now (nodes .exit) ≡ set (set (now (nodes .entry)) (n * 6 + 3) (getD (now (nodes .entry)) (n * 6 + 3) 0 - total)) (n * 6 + 4) (getD (now (nodes .entry)) (n * 6 + 4) 0 - ones) ⌝ }
+    requires { ⌜ n < nodes-in (now nodes) ⌝ }
+    requires { ⌜ total ≤ cell-at (now nodes) n .fourth ⌝ }
+    requires { ⌜ ones ≤ cell-at (now nodes) n .fifth ⌝ }
+    ensures { λ _. ⌜ now (nodes .exit) ≡ lowered (now (nodes .entry)) n total ones ⌝ }
 {
     let at = (n * NODE_WORDS) as usize;
     let marks = nodes[at + 3];
@@ -271,20 +279,19 @@ fn lower_left(nodes: &mut [u64], n: u64, total: u64, ones: u64)
 // Takes so many marks, so many of them strikes, off what the fork at n says of its left child. Only these two words are
 // written.
 pub fn less_left(nodes: &mut [u64], n: u64, total: u64, ones: u64)
-    requires { ⌜ ((f : Fork) × (node-at (now nodes) n ≡ Node.Fork f) × (total ≤ f .«left_total») × (ones ≤ f .«left_ones»)) ⌝ }
-    ensures { λ _. ⌜ ((f : Fork) → node-at (now (nodes .entry)) n ≡ Node.Fork f → now (nodes .exit) ≡ put (now (nodes .entry)) n (fork-cell (less-left f total ones))) ⌝ }
+    requires { ⌜ ((f : Fork) × (node-at (now nodes) n ≡ Node.Fork f) × (total ≤ f .«left_total»)
+        × (ones ≤ f .«left_ones»)) ⌝ }
+    ensures { λ _. ⌜ ((f : Fork) → node-at (now (nodes .entry)) n ≡ Node.Fork f
+        → now (nodes .exit) ≡ put (now (nodes .entry)) n (fork-cell (less-left f total ones))) ⌝ }
 {
     lower_left(nodes, n, total, ones);
 }
 
 // Puts a copy of a tree's node at another number.
 pub fn move_node(nodes: &mut [u64], from: u64, to: u64)
+    requires { ⌜ OfTree (node-at (now nodes) «from») ⌝ }
     ensures { λ _. ⌜ now (nodes .exit) ≡ put-node (now (nodes .entry)) to (node-at (now (nodes .entry)) «from») ⌝ }
 {
-    match node_at(nodes, from) {
-        Node::Leaf(leaf) => set_leaf(nodes, to, leaf),
-        Node::Fork(fork) => set_fork(nodes, to, fork),
-        Node::Free(_) => (),
-        Node::Broken => (),
-    }
+    let cell = cell_at(nodes, from);
+    put_cell(nodes, to, cell);
 }

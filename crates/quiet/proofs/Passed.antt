@@ -115,7 +115,8 @@ all-quiet k zero r h l = refl
 all-quiet zero (suc n) r h l = absurd (omega arith)
 all-quiet (suc k) (suc n) r h l =
     by-digit r
-    (λ e. let m : suc n ≤ suc (trailingZeros k (r / 2)) = rw e at l in rw e (ap {B = List Bool} (λ xs. false ∷ xs) (all-quiet k n (r / 2) (omega arith) (omega arith))))
+    (λ e. let m : suc n ≤ suc (trailingZeros k (r / 2)) = rw e at l in
+    rw e (ap {B = List Bool} (λ xs. false ∷ xs) (all-quiet k n (r / 2) (omega arith) (omega arith))))
     (λ e. let m : suc n ≤ 0 = rw e at l in absurd (omega arith))
 
 -- above them stands one
@@ -189,7 +190,8 @@ module _ (w : Watch) (n r : ℕ) (h : n ≤ 64) where
     strikes k m s =
         let rest : List Bool = bits (n - gap r - suc k) (above r / 2 ^ suc k) in
         let high : bits (n - gap r) (above r) ≡ replicate (suc k) true ++ rest =
-        bits-split (suc k) (n - gap r) (above r) m ∙ ap (λ (xs : List Bool). xs ++ rest) (all-struck 64 (suc k) (above r) above-below (omega arith) s) in
+        bits-split (suc k) (n - gap r) (above r) m
+        ∙ ap (λ (xs : List Bool). xs ++ rest) (all-struck 64 (suc k) (above r) above-below (omega arith) s) in
         let all : bits n r ≡ replicate (gap r) false ++ (replicate (suc k) true ++ rest) =
         bits-split (gap r) n r (omega arith) ∙ ap₂ (λ (xs ys : List Bool). xs ++ ys) (all-quiet 64 (gap r) r (omega arith) (omega arith)) high in
         sym (ap (watched w) all ∙ watched-append w (replicate (gap r) false) (replicate (suc k) true ++ rest)
@@ -207,7 +209,8 @@ module _ (w : Watch) (n r : ℕ) (h : n ≤ 64) where
     unfolding watched bits
     word-struck s =
         let none : n - gap r - (n - gap r) ≡ 0 = omega arith in
-        sym (ap (λ (k : ℕ). watched (step (later (gap r) w) true) (bits k (above r / 2 ^ (n - gap r)))) none) ∙ several (n - gap r) (omega arith) (omega arith) s
+        sym (ap (λ (k : ℕ). watched (step (later (gap r) w) true) (bits k (above r / 2 ^ (n - gap r)))) none)
+        ∙ several (n - gap r) (omega arith) (omega arith) s
 
     -- or a quiet frame ends them
     pub word-strikes : run r < n - gap r
@@ -225,7 +228,8 @@ module _ (x : Leaf) (n : ℕ) where
   unfolding bits-of
   leaf-both h l =
       let at : length (bits 64 (x .low)) + (n - 64) ≡ n = omega (arith, bits-length 64 (x .low)) in
-      sym (rw at at (take-append-add (bits 64 (x .low)) (bits 64 (x .high)) (n - 64)) ∙ ap (λ (ys : List Bool). bits 64 (x .low) ++ ys) (take-bits (n - 64) 64 (x .high) (omega arith)))
+      sym (rw at at (take-append-add (bits 64 (x .low)) (bits 64 (x .high)) (n - 64))
+      ∙ ap (λ (ys : List Bool). bits 64 (x .low) ++ ys) (take-bits (n - 64) 64 (x .high) (omega arith)))
 
 -- the first bits of a leaf are the marks that it holds
 pub leaf-first : (x : Leaf) (xs : List Bool) → x ≡ leaf-of xs → length xs ≤ 127 → take (length xs) (bits-of x) ≡ xs

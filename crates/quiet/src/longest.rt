@@ -9,13 +9,13 @@ ghost use Rattle.model.specs.Tree.{Tree, marks, size};
 ghost use Rattle.model.specs.Word.{bits};
 ghost use Rattle.bits.specs.Leaf.{bits-of};
 ghost use Rattle.pool.specs.Layout.{Rooted};
+ghost use Rattle.tree.specs.TreeAt.{TreeAt};
 ghost use Rattle.quiet.specs.Watching.{later, step, watched};
 use bits::Leaf;
-use pool::Node;
-use pool::node_at;
+use bits::WORD_BITS;
+use pool::TreeNode;
+use pool::leaf_or_fork;
 use tree::LEVELS;
-
-const WORD_BITS: u64 = 64;
 
 // How far the visit has come: whether a strike was met, how many quiet frames have passed since the last one, and the
 // longest quiet between two strikes so far.
@@ -89,19 +89,17 @@ fn after_leaf(watch: Watch, leaf: Leaf, length: u64) -> Watch
 
 // After the marks of the tree at n, which holds `length`.
 fn after_tree(nodes: &[u64], n: u64, length: u64, watch: Watch, levels: u64) -> Watch
-    requires { ⌜ ((t : Tree) × Rooted (now nodes) n levels t × (size t ≡ length) × (watch .since + length < 2 ^ 64)) ⌝ }
-    ensures { λ r. ⌜ ((t : Tree) → Rooted (now (nodes .entry)) n levels t → size t ≡ length → r ≡ watched watch (marks t)) ⌝ }
+    requires { ⌜ TreeAt (now nodes) n levels length × (watch .since + length < 2 ^ 64) ⌝ }
+    ensures { λ r. ⌜ ((s : TreeAt (now (nodes .entry)) n levels length) → r ≡ watched watch (marks (s .tree))) ⌝ }
 {
-    match node_at(nodes, n) {
-        Node::Leaf(leaf) => after_leaf(watch, leaf, length),
-        Node::Fork(fork) => {
+    match leaf_or_fork(nodes, n) {
+        TreeNode::Leaf(leaf) => after_leaf(watch, leaf, length),
+        TreeNode::Fork(fork) => {
             let below = levels - 1;
             let left = fork.left_total;
             let first = after_tree(nodes, fork.left, left, watch, below);
             after_tree(nodes, fork.right, length - left, first, below)
         }
-        Node::Free(_) => watch,
-        Node::Broken => watch,
     }
 }
 

@@ -17,25 +17,26 @@ use Rattle.model.specs.Word.{marks-of, words-for, words-of}
 use Rattle.model.proofs.Cases.{by-leb, by-test}
 use Rattle.model.proofs.Depth.{node-total}
 use Rattle.model.proofs.Floor.{sound-nodes, whole-sized}
-use Rattle.tree.proofs.Output.{words-length}
-use Rattle.serve.specs.Answer.{code, value}
-use Rattle.window.specs.Calls.{BuildsTo, Checked, Damaged, NoPool, Ran, Valued}
+use Rattle.model.proofs.Words.{words-length}
+use Rattle.order.specs.Answer.{code, value}
+use Rattle.run.specs.Runs.{Ran}
+use Rattle.window.specs.Calls.{BuildsTo, Checked, Damaged, NoPool, Valued}
 use Rattle.window.specs.Layout.{Counted, Stands}
-use Rattle.serve.specs.Orders.{Asked, asks}
-use Rattle.window.specs.Orders.{after, answer, answer-words, answers, after-all, orders-of}
-use Rattle.serve.specs.declared.answer.Answer.{Answer}
-use Rattle.serve.specs.declared.answer.Answer.the-variants.{Done, NotSound, WrongSize}
+use Rattle.order.specs.Asked.{Asked, asks}
+use Rattle.run.specs.Orders.{after, answer, answer-words, answers, after-all, orders-of}
+use Rattle.order.specs.declared.answer.Answer.{Answer}
+use Rattle.order.specs.declared.answer.Answer.the-variants.{Done, NotSound, WrongSize}
 use Rattle.serve.proofs.Orderly.{never}
 use Rattle.window.proofs.OneState.{well-at}
 use Rattle.window.proofs.Pinned.{Likely, one-layout}
 use Rattle.grammar.specs.Lines.{Wanted, dumping, loading, ordering, pooling}
 use Rattle.script.specs.Prints.{State, answered, built, damaged, holding, leaves, left-by, load-answer, loaded, nothing, now-holding, shown, sized}
-use Rattle.script.specs.Turns.{Holds, extent-of}
+use Rattle.script.specs.Playing.{Keeps, extent-of}
 
 -- a line that asks for w was answered r, and the words of the pool are ws′ now, of n′ nodes
 pub record Did (w : Wanted) (s : State) (ws : List ℕ) (n : ℕ) (r : Answer) (n′ : ℕ) (ws′ : List ℕ) : Type 0 where
   pub answer : r ≡ answered w s
-  pub holds : Holds ws′ n′ (left-by w s)
+  pub holds : Keeps ws′ n′ (left-by w s)
   pub past : drop (extent-of n′) ws′ ≡ drop (extent-of n′) ws
   pub same : left-by w s ≡ s → (n′ ≡ n) × (ws′ ≡ ws)
 
@@ -92,8 +93,8 @@ pub none-in : (ws : List ℕ) (n : ℕ) → sized n ≡ false → NoPool (take (
 none-in ws n e m c = no-words m (rw (extent-none n e) at c)
 
 -- something is held
-pub state-likely : (ws : List ℕ) (n : ℕ) {G : Type 0} → length ws ≡ 6144 → ((s : State) → Holds ws n s → G) → Likely G
-unfolding Holds
+pub state-likely : (ws : List ℕ) (n : ℕ) {G : Type 0} → length ws ≡ 6144 → ((s : State) → Keeps ws n s → G) → Likely G
+unfolding Keeps
 state-likely ws n {G} l go h =
     by-test (sized n)
     (λ e.
@@ -105,7 +106,8 @@ state-likely ws n {G} l go h =
 -- ---- what is held afterwards
 
 -- after a line a pool stands, or what was held is held
-or-kept : (n : ℕ) (o : Option Pool) (s : State) {P : Type 0} → ((m : ℕ) (p : Pool) → now-holding n o s ≡ holding m p → P) → (now-holding n o s ≡ s → P) → P
+or-kept : (n : ℕ) (o : Option Pool) (s : State) {P : Type 0} → ((m : ℕ) (p : Pool) → now-holding n o s ≡ holding m p → P)
+    → (now-holding n o s ≡ s → P) → P
 unfolding now-holding
 or-kept n (some p) s a b = a n p refl
 or-kept n none s a b = b refl
@@ -153,7 +155,8 @@ number-held (holding n p) = n
 number-held (damaged n) = n
 
 -- a line that leaves what is held leaves every word
-pub refused : (w : Wanted) (s : State) (ws : List ℕ) (n : ℕ) (r : Answer) (ws′ : List ℕ) → Holds ws n s → r ≡ answered w s → left-by w s ≡ s → ws′ ≡ ws → Did w s ws n r n ws′
+pub refused : (w : Wanted) (s : State) (ws : List ℕ) (n : ℕ) (r : Answer) (ws′ : List ℕ) → Keeps ws n s → r ≡ answered w s → left-by w s ≡ s
+    → ws′ ≡ ws → Did w s ws n r n ws′
 refused w s ws n r ws′ h a e u = record {
   answer = a;
   holds = rw (u, e) h;
@@ -161,8 +164,9 @@ refused w s ws n r ws′ h a e u = record {
   same = λ _. (refl, u);
 }
 
-still : (s : State) (ws vs : List ℕ) (n m : ℕ) (q : Pool) → Holds ws n s → holding m q ≡ s → Stands vs m q → (m ≡ n) × (vs ++ drop (extent-of m) ws ≡ ws)
-unfolding Holds
+still : (s : State) (ws vs : List ℕ) (n m : ℕ) (q : Pool) → Keeps ws n s → holding m q ≡ s → Stands vs m q
+    → (m ≡ n) × (vs ++ drop (extent-of m) ws ≡ ws)
+unfolding Keeps
 still nothing ws vs n m q h f st = absurd (let k = ap kind f in omega arith)
 still (holding k p) ws vs n m q h f st =
     let e : m ≡ n = ap number-held f ∙ h .0 in
@@ -171,9 +175,10 @@ still (holding k p) ws vs n m q h f st =
 still (damaged k) ws vs n m q h f st = absurd (let k = ap kind f in omega arith)
 
 -- a line after which a pool stands
-pub taken : (w : Wanted) (s : State) (ws : List ℕ) (n : ℕ) (r : Answer) (m : ℕ) (vs : List ℕ) (q : Pool) → Holds ws n s → r ≡ answered w s → left-by w s ≡ holding m q → Stands vs m q
+pub taken : (w : Wanted) (s : State) (ws : List ℕ) (n : ℕ) (r : Answer) (m : ℕ) (vs : List ℕ) (q : Pool) → Keeps ws n s → r ≡ answered w s
+    → left-by w s ≡ holding m q → Stands vs m q
     → Did w s ws n r m (vs ++ drop (extent-of m) ws)
-unfolding Holds
+unfolding Keeps
 taken w s ws n r m vs q h a e st =
     let z : sized m ≡ true = bounds-sized m (st .counted .some) (st .counted .most) in
     let l : length vs ≡ extent-of m = st .counted .words ∙ sym (extent-sized m z) in
@@ -186,7 +191,7 @@ taken w s ws n r m vs q h a e st =
 
 -- ---- a load
 
-load-made : (s : State) (ws : List ℕ) (n len : ℕ) (words : List ℕ) (r : Answer) (vs : List ℕ) → Holds ws n s → Counted (take (extent-of n) ws) n
+load-made : (s : State) (ws : List ℕ) (n len : ℕ) (words : List ℕ) (r : Answer) (vs : List ℕ) → Keeps ws n s → Counted (take (extent-of n) ws) n
     → answered (loading len words) s ≡ load-answer n len words → left-by (loading len words) s ≡ now-holding n (loaded n len words) s
     → BuildsTo (take (extent-of n) ws) words len r vs → Did (loading len words) s ws n r n (vs ++ drop (extent-of n) ws)
 unfolding load-answer loaded now-holding
@@ -199,43 +204,50 @@ load-made s ws n len words r vs h c a g b =
     (Pool.build n (take len (marks-of words))) refl)
     (λ t m.
     let x = b .too-long n c m in
-    refused (loading len words) s ws n r (vs ++ drop (extent-of n) ws) h (x .0 ∙ sym (a ∙ rw (load-answer, t) refl)) (g ∙ rw (loaded, t) refl) (untouched ws vs (extent-of n) (x .1)))
+    refused (loading len words) s ws n r (vs ++ drop (extent-of n) ws) h (x .0 ∙ sym (a ∙ rw (load-answer, t) refl)) (g ∙ rw (loaded, t) refl)
+    (untouched ws vs (extent-of n) (x .1)))
   where
-    made : len ≤ 64 * length words → answered (loading len words) s ≡ built len (Pool.build n (take len (marks-of words))) → left-by (loading len words) s ≡ now-holding n (Pool.build n (take len (marks-of words))) s
+    made : len ≤ 64 * length words → answered (loading len words) s ≡ built len (Pool.build n (take len (marks-of words)))
+        → left-by (loading len words) s ≡ now-holding n (Pool.build n (take len (marks-of words))) s
         → (o : Option Pool) → Pool.build n (take len (marks-of words)) ≡ o → Did (loading len words) s ws n r n (vs ++ drop (extent-of n) ws)
     made m a g none e =
         let x = b .full n c m e in
-        refused (loading len words) s ws n r (vs ++ drop (extent-of n) ws) h (x .0 ∙ sym (a ∙ ap (built len) e)) (g ∙ ap (λ (o : Option Pool). now-holding n o s) e) (untouched ws vs (extent-of n) (x .1))
+        refused (loading len words) s ws n r (vs ++ drop (extent-of n) ws) h (x .0 ∙ sym (a ∙ ap (built len) e))
+        (g ∙ ap (λ (o : Option Pool). now-holding n o s) e) (untouched ws vs (extent-of n) (x .1))
     made m a g (some q) e =
         let x = b .built n q c m e in
         taken (loading len words) s ws n r n vs q h (x .0 ∙ sym (a ∙ ap (built len) e)) (g ∙ ap (λ (o : Option Pool). now-holding n o s) e) (x .1)
 
-pub load-did : (s : State) (ws : List ℕ) (n len : ℕ) (words : List ℕ) (r : Answer) (vs : List ℕ) → length ws ≡ 6144 → Holds ws n s
+pub load-did : (s : State) (ws : List ℕ) (n len : ℕ) (words : List ℕ) (r : Answer) (vs : List ℕ) → length ws ≡ 6144 → Keeps ws n s
     → BuildsTo (take (extent-of n) ws) words len r vs → Did (loading len words) s ws n r n (vs ++ drop (extent-of n) ws)
-unfolding Holds answered left-by
+unfolding Keeps answered left-by
 load-did nothing ws n len words r vs l h b =
     let x = b .no-pool (none-in ws n h) in
     refused (loading len words) nothing ws n r (vs ++ drop (extent-of n) ws) h (x .0) refl (untouched ws vs (extent-of n) (x .1))
 load-did (holding m p) ws n len words r vs l h b =
-    load-made (holding m p) ws n len words r vs h (h .1 .counted) (ap (λ (k : ℕ). load-answer k len words) (h .0)) (ap (λ (k : ℕ). now-holding k (loaded k len words) (holding m p)) (h .0)) b
+    load-made (holding m p) ws n len words r vs h (h .1 .counted) (ap (λ (k : ℕ). load-answer k len words) (h .0))
+    (ap (λ (k : ℕ). now-holding k (loaded k len words) (holding m p)) (h .0)) b
 load-did (damaged m) ws n len words r vs l h b =
-    load-made (damaged m) ws n len words r vs h (counted-in ws n l (h .1)) (ap (λ (k : ℕ). load-answer k len words) (h .0)) (ap (λ (k : ℕ). now-holding k (loaded k len words) (damaged m)) (h .0)) b
+    load-made (damaged m) ws n len words r vs h (counted-in ws n l (h .1)) (ap (λ (k : ℕ). load-answer k len words) (h .0))
+    (ap (λ (k : ℕ). now-holding k (loaded k len words) (damaged m)) (h .0)) b
 
 -- ---- a pool
 
 empty-made : (n : ℕ) → 1 ≤ n → (q : Pool) × (Pool.build n [] ≡ some q)
 unfolding Pool.build nodes-for leaf-count
-empty-made n h = by-leb 1 n (λ e g. (record { tree = build []; free = Pool.numbers-from 1 (n - 1) }, rw (Pool.build, e) refl)) (λ e g. absurd (omega arith))
+empty-made n h = by-leb 1 n (λ e g. (record { tree = build []; free = Pool.numbers-from 1 (n - 1) }, rw (Pool.build, e) refl))
+    (λ e g. absurd (omega arith))
 
-pub pool-did : (s : State) (ws : List ℕ) (n m : ℕ) (r : Answer) (vs : List ℕ) → length ws ≡ 6144 → Holds ws n s → sized m ≡ true
+pub pool-did : (s : State) (ws : List ℕ) (n m : ℕ) (r : Answer) (vs : List ℕ) → length ws ≡ 6144 → Keeps ws n s → sized m ≡ true
     → BuildsTo (take (extent-of m) ws) [] 0 r vs → Did (pooling m) s ws n (Done m) m (vs ++ drop (extent-of m) ws)
 unfolding answered left-by now-holding marks-of
 pool-did s ws n m r vs l h z b =
     let q = empty-made m (sized-bounds m z .0) in
     let x = b .built m (q .0) (counted-in ws m l z) (omega arith) (q .1) in
-    taken (pooling m) s ws n (Done m) m vs (q .0) h (rw (answered, z) refl) (rw (left-by, z) (ap (λ (o : Option Pool). now-holding m o s) (q .1))) (x .1)
+    taken (pooling m) s ws n (Done m) m vs (q .0) h (rw (answered, z) refl) (rw (left-by, z) (ap (λ (o : Option Pool). now-holding m o s) (q .1)))
+    (x .1)
 
-pub pool-refused : (s : State) (ws : List ℕ) (n m : ℕ) → Holds ws n s → sized m ≡ false → Did (pooling m) s ws n WrongSize n ws
+pub pool-refused : (s : State) (ws : List ℕ) (n m : ℕ) → Keeps ws n s → sized m ≡ false → Did (pooling m) s ws n WrongSize n ws
 unfolding answered left-by
 pool-refused s ws n m h z = refused (pooling m) s ws n WrongSize ws h (rw (answered, z) refl) (rw (left-by, z) refl) refl
 
@@ -248,7 +260,8 @@ pub record Ordered (o : Asked) (s : State) (ws : List ℕ) (n : ℕ) (r : Answer
   pub refusal : (code r ≡ 0 → ⊥) → (code r ≡ code reply) × (value r ≡ value reply)
   pub words : code r ≡ 0 → (getD out′ 0 0 ≡ code reply) × (getD out′ 1 0 ≡ value reply)
 
-order-refused : (o : Asked) (s : State) (ws : List ℕ) (n : ℕ) (r x : Answer) (ws′ out′ : List ℕ) → r ≡ x → (code x ≡ 0 → ⊥) → Did (ordering o) s ws n x n ws′ → Ordered o s ws n r ws′ out′
+order-refused : (o : Asked) (s : State) (ws : List ℕ) (n : ℕ) (r x : Answer) (ws′ out′ : List ℕ) → r ≡ x → (code x ≡ 0 → ⊥)
+    → Did (ordering o) s ws n x n ws′ → Ordered o s ws n r ws′ out′
 order-refused o s ws n r x ws′ out′ e c d = record {
   reply = x;
   did = d;
@@ -256,9 +269,10 @@ order-refused o s ws n r x ws′ out′ e c d = record {
   words = λ z. absurd (c (sym (ap code e) ∙ z));
 }
 
-pub order-did : (s : State) (ws : List ℕ) (n a b c : ℕ) (out : List ℕ) (r : Answer) (vs out′ : List ℕ) → length ws ≡ 6144 → length out ≡ 2 → Holds ws n s
+pub order-did : (s : State) (ws : List ℕ) (n a b c : ℕ) (out : List ℕ) (r : Answer) (vs out′ : List ℕ) → length ws ≡ 6144 → length out ≡ 2
+    → Keeps ws n s
     → Ran (take (extent-of n) ws) (a ∷ b ∷ c ∷ []) out r vs out′ → Ordered (asks a b c) s ws n r (vs ++ drop (extent-of n) ws) out′
-unfolding Holds answered left-by code value answers after-all orders-of answer-words
+unfolding Keeps answered left-by code value answers after-all orders-of answer-words
 order-did nothing ws n a b c out r vs out′ l k h d =
     let x = d .no-pool (none-in ws n h) in
     order-refused (asks a b c) nothing ws n r WrongSize _ out′ (x .0) (λ z. omega arith)
@@ -267,7 +281,8 @@ order-did (holding m p) ws n a b c out r vs out′ l k h d =
     let x = d .served n p (h .1) refl (omega (arith, k)) in
     record {
       reply = answer (asks a b c) p;
-      did = taken (ordering (asks a b c)) (holding m p) ws n (answer (asks a b c) p) n vs (after (asks a b c) p) h refl (ap (λ (k : ℕ). holding k (after (asks a b c) p)) (h .0)) (x .1);
+      did = taken (ordering (asks a b c)) (holding m p) ws n (answer (asks a b c) p) n vs (after (asks a b c) p) h refl
+          (ap (λ (k : ℕ). holding k (after (asks a b c) p)) (h .0)) (x .1);
       refusal = λ z. absurd (z (ap code (x .0)));
       words = λ z. (ap (λ (us : List ℕ). getD us 0 0) (x .2), ap (λ (us : List ℕ). getD us 1 0) (x .2));
     }
@@ -296,9 +311,10 @@ pub record Dumped (s : State) (ws : List ℕ) (n : ℕ) (checked valued : Answer
   pub count : value valued ≤ 1016
   pub words : take (value valued) words′ ≡ shown dumping s
 
-pub dump-did : (s : State) (ws : List ℕ) (n : ℕ) (checked valued : Answer) (words words′ : List ℕ) → length ws ≡ 6144 → 1024 ≤ length words → Holds ws n s
+pub dump-did : (s : State) (ws : List ℕ) (n : ℕ) (checked valued : Answer) (words words′ : List ℕ) → length ws ≡ 6144 → 1024 ≤ length words
+    → Keeps ws n s
     → Checked (take (extent-of n) ws) checked → Valued (take (extent-of n) ws) words valued words′ → Dumped s ws n checked valued words′
-unfolding Holds answered left-by shown value
+unfolding Keeps answered left-by shown value
 dump-did nothing ws n checked valued words words′ l k h c v =
     let e = ap value (v .no-pool (none-in ws n h) .0) in
     record {
@@ -313,7 +329,8 @@ dump-did (holding m p) ws n checked valued words words′ l k h c v =
     record {
       did = refused dumping (holding m p) ws n checked ws h (c .sound n p (h .1)) refl refl;
       count = omega (arith, e, few);
-      words = ap₂ take e (x .1) ∙ take-at (words-of (words-for (size (p .tree))) (marks (p .tree))) _ (words-for (size (p .tree))) (words-length (words-for (size (p .tree))) (marks (p .tree)));
+      words = ap₂ take e (x .1) ∙ take-at (words-of (words-for (size (p .tree))) (marks (p .tree))) _ (words-for (size (p .tree)))
+          (words-length (words-for (size (p .tree))) (marks (p .tree)));
     }
 dump-did (damaged m) ws n checked valued words words′ l k h c v =
     let d : Damaged (take (extent-of n) ws) = record { count = (n, counted-in ws n l (h .1)); none = h .2 } in

@@ -8,18 +8,19 @@ use lib.ListN.{length, take, drop, drop-of-length-le}
 use lib.Seq.{drop-drop, drop-length, take-all, take-length}
 use Rattle.bytes.specs.Bytes.{indexAfter, indexOf, slice}
 use Rattle.model.proofs.Cases.{by-ltb, by-test}
-use Rattle.grammar.proofs.Cutting.{pieces-more, pieces-one}
-use Rattle.grammar.specs.Lines.{closed, lines}
-use Rattle.grammar.specs.Text.{newline, pieces}
+use Rattle.text.proofs.Cutting.{pieces-more, pieces-one}
+use Rattle.text.specs.Text.{closed, lines}
+use Rattle.text.specs.Text.{newline, pieces}
 use Rattle.grammar.specs.Lines.{wanted}
-use Rattle.grammar.specs.Text.{over}
+use Rattle.text.specs.Text.{over}
 use Rattle.script.specs.Prints.{State, line-text, most-input, too-long}
-use Rattle.script.specs.Turns.{Holds, Played, Turned, after-line, first-line}
+use Rattle.script.specs.Playing.{after-line, desk, first-line, Keeps, Played, LinePlayed}
 
 pub first-is : (bs : List ℕ) → first-line bs ≡ take (indexOf newline bs) bs
 unfolding first-line indexOf indexAfter
 first-is [] = refl
-first-is (b ∷ bs) = by-test (eqb b newline) (λ e. rw (first-line, indexOf, e) refl) (λ e. rw (first-line, indexOf, e) (ap (λ (l : List ℕ). b ∷ l) (first-is bs)))
+first-is (b ∷ bs) =
+    by-test (eqb b newline) (λ e. rw (first-line, indexOf, e) refl) (λ e. rw (first-line, indexOf, e) (ap (λ (l : List ℕ). b ∷ l) (first-is bs)))
 
 pub after-is : (bs : List ℕ) → after-line bs ≡ drop (suc (indexOf newline bs)) bs
 unfolding after-line indexOf indexAfter
@@ -80,7 +81,8 @@ unfolding lines
 lines-are b bs =
     by-ltb (indexOf newline (b ∷ bs)) (length (b ∷ bs))
     (λ _ h.
-    ap closed (pieces-more newline (b ∷ bs) h) ∙ closed-more (take (indexOf newline (b ∷ bs)) (b ∷ bs)) newline (drop (suc (indexOf newline (b ∷ bs))) (b ∷ bs))
+    ap closed (pieces-more newline (b ∷ bs) h) ∙ closed-more (take (indexOf newline (b ∷ bs)) (b ∷ bs)) newline
+    (drop (suc (indexOf newline (b ∷ bs))) (b ∷ bs))
     ∙ ap₂ (λ (l rest : List ℕ). l ∷ closed (pieces newline rest)) (sym (first-is (b ∷ bs))) (sym (after-is (b ∷ bs))))
     (λ _ h.
     ap closed (pieces-one newline (b ∷ bs) h) ∙ last-line b bs
@@ -92,29 +94,33 @@ pub no-lines : lines [] ≡ []
 unfolding lines closed pieces
 no-lines = refl
 
--- ---- a turn
+-- ---- a line
 
-pub ended-turn : (input : List ℕ) (at : ℕ) (ws : List ℕ) (n : ℕ) (out : List ℕ) → length input ≤ at → Turned input at ws n out (record { at = at; nodes = n; end = 0 }) ws out
-ended-turn input at ws n out h = record {
+pub ended-line : (input : List ℕ) (at : ℕ) (ws : List ℕ) (n : ℕ) (out : List ℕ) → length input ≤ at
+    → LinePlayed input at (desk ws n out) (record { at = at; nodes = n; end = 0 }) ws out
+ended-line input at ws n out h = record {
   ended = λ _. (refl, refl, refl);
   long = λ g _. absurd (omega arith);
   line = λ g _ _ _. absurd (omega arith);
 }
 
-pub long-turn : (input : List ℕ) (at : ℕ) (ws : List ℕ) (n : ℕ) (out : List ℕ) (end : ℕ) (out′ : List ℕ) → at < length input → most-input < length input
-    → (end ≡ length (line-text 12 0 [])) × (out′ ≡ over 0 (line-text 12 0 []) out) → Turned input at ws n out (record { at = length input; nodes = n; end = end }) ws out′
+pub long-line : (input : List ℕ) (at : ℕ) (ws : List ℕ) (n : ℕ) (out : List ℕ) (end : ℕ) (out′ : List ℕ) → at < length input
+    → most-input < length input
+    → (end ≡ length (line-text 12 0 [])) × (out′ ≡ over 0 (line-text 12 0 []) out)
+    → LinePlayed input at (desk ws n out) (record { at = length input; nodes = n; end = end }) ws out′
 unfolding too-long
-long-turn input at ws n out end out′ h g t = record {
+long-line input at ws n out end out′ h g t = record {
   ended = λ k. absurd (omega arith);
   long = λ _ _. (λ i. record { at = length input; nodes = n; end = t .0 i }, refl, t .1);
   line = λ _ k _ _. absurd (omega arith);
 }
 
-pub line-turn : (input : List ℕ) (at e : ℕ) (ws : List ℕ) (n : ℕ) (out : List ℕ) (next n′ end : ℕ) (ws′ out′ : List ℕ) → at < length input → length input ≤ most-input
+pub next-line : (input : List ℕ) (at e : ℕ) (ws : List ℕ) (n : ℕ) (out : List ℕ) (next n′ end : ℕ) (ws′ out′ : List ℕ) → at < length input
+    → length input ≤ most-input
     → e ≡ at + indexOf newline (slice at (length input) input) → at < next → next ≤ length input → drop next input ≡ after-line (drop at input)
-    → ((s : State) → Holds ws n s → Played (wanted (take (e - at) (drop at input))) s ws n out n′ end ws′ out′)
-    → Turned input at ws n out (record { at = next; nodes = n′; end = end }) ws′ out′
-line-turn input at e ws n out next n′ end ws′ out′ h g ends less within rest p = record {
+    → ((s : State) → Keeps ws n s → Played (wanted (take (e - at) (drop at input))) s (desk ws n out) (desk ws′ n′ out′) end)
+    → LinePlayed input at (desk ws n out) (record { at = next; nodes = n′; end = end }) ws′ out′
+next-line input at e ws n out next n′ end ws′ out′ h g ends less within rest p = record {
   ended = λ k. absurd (omega arith);
   long = λ _ k. absurd (omega arith);
   line = λ _ _ s holds. (less, within, rest, rw (line-is input at e ends) at (p s holds));

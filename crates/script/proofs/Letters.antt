@@ -6,8 +6,8 @@ use mathlib.Core.Path.{_≡_, refl, sym, ap, ap₂, _∙_}
 use mathlib.Core.List.{List, [], _∷_, _++_, append-assoc, append-nil}
 use lib.ListN.{length, take, getD, length-append}
 use lib.Seq.{length-take-le, take-suc}
-use Rattle.grammar.specs.Text.{decimal-text, hex-text, newline, over, space}
-use Rattle.grammar.proofs.Putting.{decimal-length, hex-length, over-behind, over-length, over-none}
+use Rattle.text.specs.Text.{decimal-text, hex-text, newline, over, space}
+use Rattle.text.proofs.Putting.{decimal-length, hex-length, over-behind, over-length, over-none}
 use Rattle.script.specs.Prints.{line-text, words-text}
 
 -- a text was put at a place, and ends there
@@ -21,7 +21,8 @@ put-none at bs = record { ends = omega arith; bytes = sym (over-none at bs) }
 pub put-length : (at : ℕ) (a bs : List ℕ) (mid : ℕ) (bs′ : List ℕ) → Put at a bs mid bs′ → at + length a ≤ length bs → length bs′ ≡ length bs
 put-length at a bs mid bs′ p h = ap length (p .bytes) ∙ over-length at a bs h
 
-pub put-both : (at : ℕ) (a b bs : List ℕ) (mid end : ℕ) (bs′ bs″ : List ℕ) → Put at a bs mid bs′ → Put mid b bs′ end bs″ → at + length a + length b ≤ length bs → Put at (a ++ b) bs end bs″
+pub put-both : (at : ℕ) (a b bs : List ℕ) (mid end : ℕ) (bs′ bs″ : List ℕ) → Put at a bs mid bs′ → Put mid b bs′ end bs″
+    → at + length a + length b ≤ length bs → Put at (a ++ b) bs end bs″
 put-both at a b bs mid end bs′ bs″ p q h = record {
   ends = omega (arith, q .ends, p .ends, length-append a b);
   bytes = q .bytes ∙ ap₂ (λ (m : ℕ) (xs : List ℕ). over m b xs) (p .ends) (p .bytes) ∙ over-behind at a b bs h;
@@ -70,13 +71,17 @@ words-text-length (w ∷ ws) = length-append (space ∷ hex-text w) (words-text 
 words-text-append : (ws vs : List ℕ) → words-text (ws ++ vs) ≡ words-text ws ++ words-text vs
 unfolding words-text
 words-text-append [] vs = refl
-words-text-append (w ∷ ws) vs = ap (_++_ (space ∷ hex-text w)) (words-text-append ws vs) ∙ sym (append-assoc (space ∷ hex-text w) (words-text ws) (words-text vs))
+words-text-append (w ∷ ws) vs =
+    ap (_++_ (space ∷ hex-text w)) (words-text-append ws vs) ∙ sym (append-assoc (space ∷ hex-text w) (words-text ws) (words-text vs))
 
 one-more : (i : ℕ) (ws : List ℕ) → i < length ws → words-text (take (suc i) ws) ≡ words-text (take i ws) ++ (space ∷ hex-text (getD ws i 0))
 unfolding words-text
-one-more i ws h = ap words-text (take-suc ws i 0 h) ∙ words-text-append (take i ws) (getD ws i 0 ∷ []) ∙ ap (λ (xs : List ℕ). words-text (take i ws) ++ xs) (append-nil (space ∷ hex-text (getD ws i 0)))
+one-more i ws h =
+    ap words-text (take-suc ws i 0 h) ∙ words-text-append (take i ws) (getD ws i 0 ∷ [])
+    ∙ ap (λ (xs : List ℕ). words-text (take i ws) ++ xs) (append-nil (space ∷ hex-text (getD ws i 0)))
 
-module _ (at i : ℕ) (ws out : List ℕ) (e₁ : ℕ) (out₁ : List ℕ) (here : i < length ws) (room : at + 17 * suc i ≤ length out) (p : Put at (words-text (take i ws)) out e₁ out₁) where
+module _ (at i : ℕ) (ws out : List ℕ) (e₁ : ℕ) (out₁ : List ℕ) (here : i < length ws) (room : at + 17 * suc i ≤ length out)
+    (p : Put at (words-text (take i ws)) out e₁ out₁) where
   so-far : (e₁ ≡ at + 17 * i) × (length out₁ ≡ length out)
   so-far =
       let l = words-text-length (take i ws) in
@@ -106,24 +111,29 @@ module _ (at i : ℕ) (ws out : List ℕ) (e₁ : ℕ) (out₁ : List ℕ) (here
 
 -- ---- a line
 
-pub line-put : (c v : ℕ) (ws out : List ℕ) (e₁ e₂ e₃ : ℕ) (out₁ out₂ out₃ : List ℕ) → 42 + 17 * length ws ≤ length out → Put 0 (two-text c v) out e₁ out₁
-    → Put e₁ (words-text ws) out₁ e₂ out₂ → Put e₂ (newline ∷ []) out₂ e₃ out₃ → (e₃ ≡ length (line-text c v ws)) × (out₃ ≡ over 0 (line-text c v ws) out)
+pub line-put : (c v : ℕ) (ws out : List ℕ) (e₁ e₂ e₃ : ℕ) (out₁ out₂ out₃ : List ℕ) → 42 + 17 * length ws ≤ length out
+    → Put 0 (two-text c v) out e₁ out₁
+    → Put e₁ (words-text ws) out₁ e₂ out₂ → Put e₂ (newline ∷ []) out₂ e₃ out₃
+    → (e₃ ≡ length (line-text c v ws)) × (out₃ ≡ over 0 (line-text c v ws) out)
 unfolding line-text
 line-put c v ws out e₁ e₂ e₃ out₁ out₂ out₃ h p q r =
     let l = two-length c v in
     let k = words-text-length ws in
     let a = put-both 0 (two-text c v) (words-text ws) out e₁ e₂ out₁ out₂ p q (omega arith) in
-    let b = put-both 0 (two-text c v ++ words-text ws) (newline ∷ []) out e₂ e₃ out₂ out₃ a r (omega (arith, length-append (two-text c v) (words-text ws))) in
+    let b = put-both 0 (two-text c v ++ words-text ws) (newline ∷ []) out e₂ e₃ out₂ out₃ a r
+    (omega (arith, length-append (two-text c v) (words-text ws))) in
     (b .ends ∙ zero-add _, b .bytes)
 
 -- there is room for the words, and for the end of the line
-pub words-room : (c v k : ℕ) (out : List ℕ) (e₁ : ℕ) (out₁ : List ℕ) → 42 + 17 * k ≤ length out → Put 0 (two-text c v) out e₁ out₁ → e₁ + 17 * k ≤ length out₁
+pub words-room : (c v k : ℕ) (out : List ℕ) (e₁ : ℕ) (out₁ : List ℕ) → 42 + 17 * k ≤ length out → Put 0 (two-text c v) out e₁ out₁
+    → e₁ + 17 * k ≤ length out₁
 words-room c v k out e₁ out₁ h p =
     let l = two-length c v in
     let j = put-length 0 (two-text c v) out e₁ out₁ p (omega arith) in
     omega (arith, p .ends)
 
-pub end-room : (c v : ℕ) (ws out : List ℕ) (e₁ e₂ : ℕ) (out₁ out₂ : List ℕ) → 42 + 17 * length ws ≤ length out → Put 0 (two-text c v) out e₁ out₁ → Put e₁ (words-text ws) out₁ e₂ out₂ → e₂ < length out₂
+pub end-room : (c v : ℕ) (ws out : List ℕ) (e₁ e₂ : ℕ) (out₁ out₂ : List ℕ) → 42 + 17 * length ws ≤ length out → Put 0 (two-text c v) out e₁ out₁
+    → Put e₁ (words-text ws) out₁ e₂ out₂ → e₂ < length out₂
 end-room c v ws out e₁ e₂ out₁ out₂ h p q =
     let l = two-length c v in
     let k = words-text-length ws in
@@ -132,7 +142,8 @@ end-room c v ws out e₁ e₂ out₁ out₂ h p q =
     omega (arith, p .ends, q .ends)
 
 -- the same where there are no words
-pub short-line-put : (c v : ℕ) (out : List ℕ) (e₁ e₂ : ℕ) (out₁ out₂ : List ℕ) → 42 ≤ length out → Put 0 (two-text c v) out e₁ out₁ → Put e₁ (newline ∷ []) out₁ e₂ out₂
+pub short-line-put : (c v : ℕ) (out : List ℕ) (e₁ e₂ : ℕ) (out₁ out₂ : List ℕ) → 42 ≤ length out → Put 0 (two-text c v) out e₁ out₁
+    → Put e₁ (newline ∷ []) out₁ e₂ out₂
     → (e₂ ≡ length (line-text c v [])) × (out₂ ≡ over 0 (line-text c v []) out)
 unfolding words-text
 short-line-put c v out e₁ e₂ out₁ out₂ h p r = line-put c v [] out e₁ e₁ e₂ out₁ out₁ out₂ (omega arith) p (put-none e₁ out₁) r

@@ -5,4 +5,4 @@ pub mod Letters
 pub mod Outcomes
 pub mod Pinned
 pub mod Refused
-pub mod Whole
+pub mod WholeInput

@@ -11,7 +11,7 @@ use Rattle.model.specs.Pool as Pool
 use Rattle.model.specs.Pool.{Pool}
 use Rattle.model.specs.Word.{marks-of}
 use Rattle.model.proofs.Cases.{by-leb, by-test}
-use Rattle.serve.specs.Answer.{code}
+use Rattle.order.specs.Answer.{code}
 use Rattle.grammar.specs.Lines.{Wanted, dumping, loading, ordering, pooling}
 use Rattle.demands.proofs.Refusals.{refused-changes-nothing}
 use Rattle.script.specs.Prints.{State, answered, built, damaged, holding, leaves, left-by, load-answer, loaded, nothing, now-holding, sized}

@@ -1,3 +1,3 @@
 pub mod Prints
 pub mod Promises
-pub mod Turns
+pub mod Playing

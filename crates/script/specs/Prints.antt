@@ -9,13 +9,14 @@ use Rattle.model.specs.Pool as Pool
 use Rattle.model.specs.Pool.{Pool}
 use Rattle.model.specs.Tree.{marks, size}
 use Rattle.model.specs.Word.{marks-of, words-of, words-for}
-use Rattle.serve.specs.Answer.{code, value}
+use Rattle.order.specs.Answer.{code, value}
 use Rattle.model.specs.Limits.{most-nodes}
-use Rattle.window.specs.Orders.{after, answer}
-use Rattle.serve.specs.declared.answer.Answer.{Answer}
-use Rattle.serve.specs.declared.answer.Answer.the-variants.{Done, Full, Malformed, WrongSize, NotSound, TooLong}
-use Rattle.grammar.specs.Lines.{Wanted, dumping, lines, loading, ordering, pooling, wanted}
-use Rattle.grammar.specs.Text.{decimal-text, hex-text, newline, space}
+use Rattle.run.specs.Orders.{after, answer}
+use Rattle.order.specs.declared.answer.Answer.{Answer}
+use Rattle.order.specs.declared.answer.Answer.the-variants.{Done, Full, Malformed, WrongSize, NotSound, TooLong}
+use Rattle.text.specs.Text.{lines}
+use Rattle.grammar.specs.Lines.{Wanted, dumping, loading, ordering, pooling, wanted}
+use Rattle.text.specs.Text.{decimal-text, hex-text, newline, space}
 
 -- ---- what is held
 
@@ -46,7 +47,8 @@ built len (some p) = Done len
 built len none = Full
 
 unfoldable pub load-answer : ℕ → ℕ → List ℕ → Answer
-load-answer n len ws = elim (leb len (64 * length ws)) [ true ↦ built len (Pool.build n (take len (marks-of ws))) | false ↦ TooLong ]
+load-answer n len ws =
+    elim (leb len (64 * length ws)) [ true ↦ built len (Pool.build n (take len (marks-of ws))) | false ↦ TooLong ]
 
 -- ---- a line
 

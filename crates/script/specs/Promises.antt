@@ -3,11 +3,11 @@ use Prim.Native.Nat.{ℕ}
 use mathlib.Core.Path.{_≡_}
 use mathlib.Core.List.{List}
 use mathlib.Core.Option.{Option, none, some}
-use Rattle.serve.specs.Answer.{code}
-use Rattle.serve.specs.declared.answer.Answer.the-variants.{Malformed}
+use Rattle.order.specs.Answer.{code}
+use Rattle.order.specs.declared.answer.Answer.the-variants.{Malformed}
 use Rattle.grammar.specs.Lines.{Wanted}
 use Rattle.script.specs.Prints.{State, answered, leaves}
-use Rattle.script.specs.Turns.{Played}
+use Rattle.script.specs.Playing.{desk, Played}
 
 -- the code that a line prints
 abbrev pub line-code : Option Wanted → State → ℕ
@@ -22,4 +22,4 @@ RefusedLineLeavesAll = (w : Option Wanted) (s : State) → (line-code w s ≡ 0 
 abbrev pub RefusedLineChangesNoWord : Type 0
 RefusedLineChangesNoWord =
     (w : Option Wanted) (s : State) (ws : List ℕ) (n : ℕ) (out : List ℕ) (n′ end : ℕ) (ws′ out′ : List ℕ)
-    → Played w s ws n out n′ end ws′ out′ → (line-code w s ≡ 0 → ⊥) → (n′ ≡ n) × (ws′ ≡ ws)
+    → Played w s (desk ws n out) (desk ws′ n′ out′) end → (line-code w s ≡ 0 → ⊥) → (n′ ≡ n) × (ws′ ≡ ws)

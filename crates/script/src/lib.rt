@@ -2,5 +2,5 @@
 mod playing;
 mod telling;
 
-pub use playing::Turn;
+pub use playing::Next;
 pub use playing::play;

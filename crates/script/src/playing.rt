@@ -11,16 +11,14 @@ ghost use mathlib.Core.Option.{some};
 ghost use Prim.Native.Nat.{_≤_, _<_};
 ghost use lib.ListN.{length, take};
 ghost use Rattle.grammar.specs.Lines.{dumping, loading, ordering, pooling, wanted};
-ghost use Rattle.serve.specs.Orders.{asks};
-ghost use Rattle.script.specs.Prints.{State};
-ghost use Rattle.script.specs.Turns.{Holds, Played, Turned, extent-of};
+ghost use Rattle.order.specs.Asked.{asks};
+ghost use Rattle.script.specs.Playing.{Plays, LinePlayed, desk, extent-of};
 use grammar::Line;
 use grammar::Load;
 use grammar::Order;
 use grammar::read;
-use serve::Answer;
-
-const NEWLINE: u8 = b'\n';
+use order::Answer;
+use text::NEWLINE;
 
 const MOST_INPUT: usize = 16384;
 
@@ -29,7 +27,7 @@ const MOST_NODES: u64 = 1023;
 const NODE_WORDS: usize = 6;
 
 // Where the next line begins, how many nodes the pool has now, and how many bytes were written.
-pub struct Turn {
+pub struct Next {
     pub at: usize,
     pub nodes: u64,
     pub end: usize,
@@ -57,7 +55,8 @@ fn extent(nodes: u64) -> usize
 // Begins an empty pool of n nodes; a refusal keeps the old one.
 fn begin(pool: &mut [u64], nodes: u64, n: u64, out: &mut [u8]) -> After
     requires { ⌜ (length (now pool) ≡ 6144) × (42 ≤ length (now out)) ⌝ }
-    ensures { λ r. ⌜ ((s : State) → Holds (now (pool .entry)) nodes s → Played (some (pooling n)) s (now (pool .entry)) nodes (now (out .entry)) (r .nodes) (r .end) (now (pool .exit)) (now (out .exit))) ⌝ }
+    ensures { λ r. ⌜ Plays (some (pooling n)) (desk (now (pool .entry)) nodes (now (out .entry)))
+        (desk (now (pool .exit)) (r .nodes) (now (out .exit))) (r .end) ⌝ }
 {
     let end = extent(n);
     if end == 0 {
@@ -77,7 +76,9 @@ fn begin(pool: &mut [u64], nodes: u64, n: u64, out: &mut [u8]) -> After
 // Builds the pool in use from the first words.
 fn load(pool: &mut [u64], nodes: u64, load: Load, words: &[u64], out: &mut [u8]) -> usize
     requires { ⌜ (length (now pool) ≡ 6144) × (load .count ≤ length (now words)) × (42 ≤ length (now out)) ⌝ }
-    ensures { λ r. ⌜ ((s : State) → Holds (now (pool .entry)) nodes s → Played (some (loading (load .length) (take (load .count) (now (words .entry))))) s (now (pool .entry)) nodes (now (out .entry)) nodes r (now (pool .exit)) (now (out .exit))) ⌝ }
+    ensures { λ r. ⌜ Plays (some (loading (load .length) (take (load .count) (now (words .entry)))))
+        (desk (now (pool .entry)) nodes (now (out .entry)))
+        (desk (now (pool .exit)) nodes (now (out .exit))) r ⌝ }
 {
     let end = extent(nodes);
     let count = load.count as usize;
@@ -90,12 +91,14 @@ fn load(pool: &mut [u64], nodes: u64, load: Load, words: &[u64], out: &mut [u8])
 // Serves one order on the pool in use.
 fn serve(pool: &mut [u64], nodes: u64, order: Order, out: &mut [u8]) -> usize
     requires { ⌜ (length (now pool) ≡ 6144) × (42 ≤ length (now out)) ⌝ }
-    ensures { λ r. ⌜ ((s : State) → Holds (now (pool .entry)) nodes s → Played (some (ordering (asks (order .number) (order .second) (order .third)))) s (now (pool .entry)) nodes (now (out .entry)) nodes r (now (pool .exit)) (now (out .exit))) ⌝ }
+    ensures { λ r. ⌜ Plays (some (ordering (asks (order .number) (order .second) (order .third))))
+        (desk (now (pool .entry)) nodes (now (out .entry)))
+        (desk (now (pool .exit)) nodes (now (out .exit))) r ⌝ }
 {
     let end = extent(nodes);
     let list = [order.number, order.second, order.third];
     let mut answer = [0u64; 2];
-    let ran = serve::told(window::run(&mut pool[..end], &list, &mut answer));
+    let ran = order::as_words(run::run(&mut pool[..end], &list, &mut answer));
     if ran.code != 0 {
         return tell_two(out, ran.code, ran.value);
     }
@@ -105,20 +108,22 @@ fn serve(pool: &mut [u64], nodes: u64, order: Order, out: &mut [u8]) -> usize
 // The length of the pool in use, and its marks as words.
 fn dump(pool: &[u64], nodes: u64, words: &mut [u64], out: &mut [u8]) -> usize
     requires { ⌜ (length (now pool) ≡ 6144) × (1024 ≤ length (now words)) × (17408 ≤ length (now out)) ⌝ }
-    ensures { λ r. ⌜ ((s : State) → Holds (now (pool .entry)) nodes s → Played (some dumping) s (now (pool .entry)) nodes (now (out .entry)) nodes r (now (pool .entry)) (now (out .exit))) ⌝ }
+    ensures { λ r. ⌜ Plays (some dumping) (desk (now (pool .entry)) nodes (now (out .entry)))
+        (desk (now (pool .entry)) nodes (now (out .exit))) r ⌝ }
 {
     let end = extent(nodes);
-    let checked = serve::told(window::check(&pool[..end]));
-    let valued = serve::told(window::values(&pool[..end], words));
+    let checked = order::as_words(window::check(&pool[..end]));
+    let valued = order::as_words(window::values(&pool[..end], words));
     let at = put_two(out, checked.code, checked.value);
     let last = put_words(out, at, words, valued.value as usize);
     end_line(out, last)
 }
 
 // Plays one line.
-fn step(line: &[u8], pool: &mut [u64], nodes: u64, out: &mut [u8]) -> After
+fn play_line(line: &[u8], pool: &mut [u64], nodes: u64, out: &mut [u8]) -> After
     requires { ⌜ (length (now line) ≤ 16384) × (length (now pool) ≡ 6144) × (17408 ≤ length (now out)) ⌝ }
-    ensures { λ r. ⌜ ((s : State) → Holds (now (pool .entry)) nodes s → Played (wanted (now (line .entry))) s (now (pool .entry)) nodes (now (out .entry)) (r .nodes) (r .end) (now (pool .exit)) (now (out .exit))) ⌝ }
+    ensures { λ r. ⌜ Plays (wanted (now (line .entry))) (desk (now (pool .entry)) nodes (now (out .entry)))
+        (desk (now (pool .exit)) (r .nodes) (now (out .exit))) (r .end) ⌝ }
 {
     let mut words = [0u64; 1024];
     match read(line, &mut words) {
@@ -149,31 +154,32 @@ pub fn play(
     nodes: u64,
     pool: &mut [u64; 6144],
     out: &mut [u8; 17408],
-) -> Turn
-    ensures { λ r. ⌜ Turned (now (input .entry)) at (now (pool .entry)) nodes (now (out .entry)) r (now (pool .exit)) (now (out .exit)) ⌝ }
+) -> Next
+    ensures { λ r. ⌜ LinePlayed (now (input .entry)) at (desk (now (pool .entry)) nodes (now (out .entry))) r
+        (now (pool .exit)) (now (out .exit)) ⌝ }
     ensures { λ r. ⌜ r .end ≤ 17408 ⌝ }
     ensures { λ r. ⌜ (at < length (now (input .entry)) → at < r .at) ⌝ }
 {
     if input.len() <= at {
-        return Turn { at, nodes, end: 0 };
+        return Next { at, nodes, end: 0 };
     }
     if MOST_INPUT < input.len() {
-        return Turn {
+        return Next {
             at: input.len(),
             nodes,
             end: tell_two(out, 12, 0),
         };
     }
     let end = find(input, at, input.len(), NEWLINE);
-    let after = step(&input[at..end], pool, nodes, out);
+    let after = play_line(&input[at..end], pool, nodes, out);
     if end == input.len() {
-        return Turn {
+        return Next {
             at: end,
             nodes: after.nodes,
             end: after.end,
         };
     }
-    Turn {
+    Next {
         at: end + 1,
         nodes: after.nodes,
         end: after.end,

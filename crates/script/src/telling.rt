@@ -3,17 +3,15 @@ ghost use mathlib.Core.List.{[], _∷_, _++_};
 ghost use mathlib.Core.Path.{_≡_};
 ghost use Prim.Native.Nat.{_+_, _*_, _≤_, _<_};
 ghost use lib.ListN.{length, take};
-ghost use Rattle.grammar.specs.Text.{decimal-text, over};
-ghost use Rattle.serve.specs.Answer as Answers;
+ghost use Rattle.text.specs.Text.{decimal-text, over};
+ghost use Rattle.order.specs.Answer as Answers;
 ghost use Rattle.script.specs.Prints.{line-text, words-text};
-use grammar::put_decimal;
-use grammar::put_hex;
-use serve::Answer;
-use serve::told;
-
-const SPACE: u8 = b' ';
-
-const NEWLINE: u8 = b'\n';
+use order::Answer;
+use order::as_words;
+use text::NEWLINE;
+use text::SPACE;
+use text::put_decimal;
+use text::put_hex;
 
 // Puts a byte at a place, and says which comes next.
 fn put_byte(out: &mut [u8], at: usize, byte: u8) -> usize
@@ -74,8 +72,9 @@ pub fn tell_two(out: &mut [u8], code: u64, value: u64) -> usize
 pub fn tell(out: &mut [u8], answer: Answer) -> usize
     requires { ⌜ 42 ≤ length (now out) ⌝ }
     ensures { λ r. ⌜ r ≡ length (line-text (Answers.code answer) (Answers.value answer) []) ⌝ }
-    ensures { λ _. ⌜ now (out .exit) ≡ over 0 (line-text (Answers.code answer) (Answers.value answer) []) (now (out .entry)) ⌝ }
+    ensures { λ _. ⌜ now (out .exit)
+        ≡ over 0 (line-text (Answers.code answer) (Answers.value answer) []) (now (out .entry)) ⌝ }
 {
-    let two = told(answer);
+    let two = as_words(answer);
     tell_two(out, two.code, two.value)
 }

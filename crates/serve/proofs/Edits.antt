@@ -6,19 +6,22 @@ use mathlib.Core.Bool.{Bool, true, false}
 use mathlib.Core.List.{List, _++_, List·Memᴰ, Memᴰ·append-left, Memᴰ·append-right}
 use mir.Val.{boolByte}
 use lib.ListN.{length}
-use Rattle.model.specs.Edit as Edit
+use Rattle.model.specs.Limits.{levels}
 use Rattle.model.specs.Pool as Pool
 use Rattle.model.specs.Pool.{Pool}
 use Rattle.model.specs.Tree.{marks, size, numbers}
 use Rattle.model.proofs.Content.{insert-size, remove-size}
 use Rattle.pool.specs.declared.chain.Chain.{Chain}
-use Rattle.grow.specs.Inserting.{Inserted, ToAsk, ToInsertInto, rest}
-use Rattle.shrink.specs.Removing.{ToTake, Took}
+use Rattle.descent.specs.Stands.{Stands}
+use Rattle.grow.specs.Inserting.{InsertedInto, ToAsk, ToInsertInto}
+use Rattle.shrink.specs.Removing.{RemovedFrom, ToRemoveFrom}
 use Rattle.shrink.specs.declared.removing.Removed.{Removed}
-use Rattle.serve.specs.Orders.{Asked, inserting, removing, unknown, answer, after, list-answer, no-room}
+use Rattle.order.specs.Asked.{Asked, inserting, removing, unknown}
+use Rattle.order.specs.Plain.{list-answer}
+use Rattle.serve.specs.Orders.{answer, after, no-room}
 use Rattle.serve.specs.Serving.{Grown, Serves, ToServe}
-use Rattle.serve.specs.declared.answer.Answer.{Answer}
-use Rattle.serve.specs.declared.answer.Answer.the-variants.{Done, Malformed}
+use Rattle.order.specs.declared.answer.Answer.{Answer}
+use Rattle.order.specs.declared.answer.Answer.the-variants.{Done, Malformed}
 use Rattle.serve.specs.declared.serving.Held.{Held}
 use Rattle.serve.specs.declared.serving.Served.{Served}
 use Rattle.serve.proofs.Orderly.{Asks, insert-done, remove-after, remove-done, room-taken, unknown-answer, unknown-asks}
@@ -44,18 +47,21 @@ module _ {w : List ℕ} {end : ℕ} {h : Held} {may : Bool} {p : Pool} (s : ToSe
 
   -- ---- a mark is put in
 
-  pub to-ask : (i : ℕ) → i ≤ h .length → ToAsk w (h .root) (h .length) i p
-  to-ask i within = record { rooted = s .site .rooted; total-is = s .total; within = within }
+  abbrev stands : Stands w (h .root) levels (h .chain .first) (h .length)
+  stands = record { end = end; tree = p .tree; free = p .free; site = s .site; total-is = s .total }
 
-  pub to-insert : (i : ℕ) → i ≤ h .length → Pool.full may i p ≡ false → ToInsertInto w (h .root) end (h .chain) (h .length) i (p .tree) (p .free)
+  abbrev pub to-ask : (i : ℕ) → i ≤ h .length → ToAsk w (h .root) (h .length) i
+  to-ask i within = record { pool = p; rooted = s .site .rooted; total-is = s .total; within = within }
+
+  abbrev pub to-insert : (i : ℕ) → i ≤ h .length → Pool.full may i p ≡ false → ToInsertInto w (h .root) (h .chain) (h .length) i
   to-insert i within room = record {
-    place = record { site = s .site; total-is = s .total; within = within; room = λ split. s .two (room-taken may i false p room split) };
+    place = record { at = stands; within = within; room = λ split. s .two (room-taken may i false p room split) };
     count-is = s .count;
     past = λ m. s .past (Memᴰ·append-right (numbers (p .tree)) m);
   }
 
-  pub inserted : {w′ : List ℕ} (i : ℕ) (b : Bool) (c : Chain) → i ≤ h .length → Pool.full may i p ≡ false
-      → Inserted w w′ end c (p .tree) (Edit.insert i b (p .free) (p .tree)) (p .free) (rest (Edit.splits i (p .tree)) (p .free))
+  pub inserted : {w′ : List ℕ} (i : ℕ) (b : Bool) (c : Chain) (within : i ≤ h .length) (room : Pool.full may i p ≡ false)
+      → InsertedInto (to-insert i within room) w′ c b
       → Serves w w′ end may (inserting i b) p (record { answer = Done 0; length = h .length + 1; chain = c })
   inserted i b c within room x =
       let inside : i ≤ size (p .tree) = omega (arith, s .total) in
@@ -71,15 +77,15 @@ module _ {w : List ℕ} {end : ℕ} {h : Held} {may : Bool} {p : Pool} (s : ToSe
 
   -- ---- a mark is taken out
 
-  pub to-take : (i : ℕ) → i < h .length → ToTake w (h .root) (h .length) (h .chain) i end (p .tree) (p .free)
-  to-take i within = record {
-    below = record { site = s .site; total = s .total; within = within };
-    count = s .count;
+  abbrev pub to-remove : (i : ℕ) → i < h .length → ToRemoveFrom w (h .root) (h .chain) (h .length) i
+  to-remove i within = record {
+    place = record { at = stands; within = within };
+    count-is = s .count;
     past = λ m. s .past (Memᴰ·append-left (p .free) m);
     fits = s .fits;
   }
 
-  pub removed : {w′ : List ℕ} (i : ℕ) (r : Removed) → i < h .length → Took w w′ end i (p .tree) (p .free) r
+  pub removed : {w′ : List ℕ} (i : ℕ) (r : Removed) (within : i < h .length) → RemovedFrom (to-remove i within) w′ r
       → Serves w w′ end may (removing i) p (record { answer = Done (boolByte (r .bit)); length = h .length - 1; chain = r .chain })
   unfolding Pool.remove
   removed i r within x =
@@ -90,7 +96,7 @@ module _ {w : List ℕ} {end : ℕ} {h : Held} {may : Bool} {p : Pool} (s : ToSe
         edited = rw now (x .edited);
         chained = rw now (x .chained);
         first = rw now (x .first);
-        count = rw now (x .count);
+        count = rw now (x .count-is);
         total = rw now (omega (arith, s .total, remove-size i (p .tree) inside));
       }
 

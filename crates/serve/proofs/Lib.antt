@@ -1,4 +1,2 @@
-pub mod Asking
 pub mod Edits
 pub mod Orderly
-pub mod Pinned

@@ -24,10 +24,13 @@ use Rattle.grow.specs.Inserting.{rest}
 use Rattle.shrink.proofs.Trimming.{remove-top}
 use Rattle.tree.specs.Query.{found-of}
 use Rattle.tree.specs.declared.query.Found.{Found}
-use Rattle.tree.specs.declared.query.Found.the-variants.{At, TooFew as Lacking, Missing}
-use Rattle.serve.specs.Orders.{Asked, inserting, removing, accessing, ranking, selecting, quiet, unknown, bit-value, placed, list-answer, no-room, answer, after}
-use Rattle.serve.specs.declared.answer.Answer.{Answer}
-use Rattle.serve.specs.declared.answer.Answer.the-variants.{Done, OutOfRange, NoZeroth, TooFew, Full, Malformed, LeafLacks}
+use Rattle.tree.specs.declared.query.Found.the-variants.{At, TooFew as Lacking}
+use Rattle.model.specs.Word.{digit}
+use Rattle.order.specs.Asked.{Asked, inserting, removing, accessing, ranking, selecting, quiet, unknown}
+use Rattle.order.specs.Plain.{placed, list-answer}
+use Rattle.serve.specs.Orders.{no-room, answer, after}
+use Rattle.order.specs.declared.answer.Answer.{Answer}
+use Rattle.order.specs.declared.answer.Answer.the-variants.{Done, OutOfRange, NoZeroth, TooFew, Full, Malformed}
 
 -- true is not false
 pub never : {A : Type 0} {b : Bool} → b ≡ true → b ≡ false → A
@@ -95,7 +98,8 @@ module _ (may : Bool) (i : ℕ) (b : Bool) (p : Pool) where
 -- ---- remove
 
 -- a mark as a word
-bit-word : (b : Bool) → boolByte b ≡ bit-value b
+bit-word : (b : Bool) → boolByte b ≡ digit b
+unfolding digit
 bit-word true = refl
 bit-word false = refl
 
@@ -134,11 +138,10 @@ module _ (i : ℕ) (t : Tree) where
   unfolding list-answer
   rank-done b r h e = rw (list-answer, within i t h, e)
 
--- a place that was found as an answer; no leaf lacks a mark
+-- a place that was found as an answer
 abbrev pub told-place : Found → Answer
 told-place (At v) = Done v
 told-place Lacking = TooFew
-told-place Missing = LeafLacks
 
 told-found : (m : Option ℕ) → told-place (found-of m) ≡ placed m
 told-found none = refl

@@ -10,7 +10,8 @@ use Rattle.model.specs.Pool.{Pool}
 use Rattle.model.specs.Tree.{Tree, size, numbers}
 use Rattle.pool.specs.Layout.{Chained, Edited, Rooted, first-of}
 use Rattle.turn.specs.Sites.{Site}
-use Rattle.serve.specs.Orders.{Asked, answer, after}
+use Rattle.order.specs.Asked.{Asked}
+use Rattle.serve.specs.Orders.{answer, after}
 use Rattle.serve.specs.declared.serving.Held.{Held}
 use Rattle.serve.specs.declared.serving.Served.{Served}
 

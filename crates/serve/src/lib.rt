@@ -1,11 +1,7 @@
 // One order on a tree among node words, wherever its root is kept: the tree is asked or edited, and what is known of it
 // is handed back. No trailer and no rule of room is known here.
-mod answer;
 mod serving;
 
-pub use answer::Answer;
-pub use answer::TwoWords;
-pub use answer::told;
 pub use serving::Held;
 pub use serving::Served;
 pub use serving::serve;

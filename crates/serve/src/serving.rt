@@ -1,12 +1,19 @@
-// One order on a tree: its own tests in the scope's sequence, and then the tree is asked or edited. An order that is
+// One order on a tree: its own tests in their sequence, and then the tree is asked or edited. An order that is
 // refused changes no node.
 ghost use mathlib.Core.Path.{_≡_};
 ghost use Prim.Native.Nat.{ℕ};
 ghost use Rattle.model.specs.Pool.{Pool};
 ghost use Rattle.model.specs.Tree.{Tree, marks};
-ghost use Rattle.serve.specs.Orders.{accessing, asks, inserting, list-answer, quiet, ranking, removing, selecting};
+ghost use Rattle.order.specs.Asked.{accessing, asks, inserting, quiet, ranking, removing, selecting};
+ghost use Rattle.order.specs.Plain.{list-answer};
 ghost use Rattle.serve.specs.Serving.{Grown, Serves, ToServe};
-use crate::answer::Answer;
+use order::ACCESS;
+use order::Answer;
+use order::INSERT;
+use order::QUIET;
+use order::RANK;
+use order::REMOVE;
+use order::SELECT;
 use pool::Chain;
 use tree::Found;
 
@@ -110,7 +117,6 @@ fn select_at(nodes: &[u64], held: Held, k: u64, bit: bool) -> Answer
     match tree::select(nodes, held.root, held.length, bit, k) {
         Found::At(at) => Answer::Done(at),
         Found::TooFew => Answer::TooFew,
-        Found::Missing => Answer::LeafLacks,
     }
 }
 
@@ -136,30 +142,30 @@ pub fn serve(
         → Serves (now (nodes .entry)) (now (nodes .exit)) end may (asks number second third) p r) ⌝ }
 {
     match number {
-        1 => match third {
+        INSERT => match third {
             0 => insert_at(nodes, held, may, second, false),
             1 => insert_at(nodes, held, may, second, true),
             _ => unmoved(held, Answer::Malformed),
         },
-        2 => match third {
+        REMOVE => match third {
             0 => remove_at(nodes, held, may, second),
             _ => unmoved(held, Answer::Malformed),
         },
-        3 => match third {
+        ACCESS => match third {
             0 => unmoved(held, access_at(nodes, held, second)),
             _ => unmoved(held, Answer::Malformed),
         },
-        4 => match third {
+        RANK => match third {
             0 => unmoved(held, rank_at(nodes, held, second, false)),
             1 => unmoved(held, rank_at(nodes, held, second, true)),
             _ => unmoved(held, Answer::Malformed),
         },
-        5 => match third {
+        SELECT => match third {
             0 => unmoved(held, select_at(nodes, held, second, false)),
             1 => unmoved(held, select_at(nodes, held, second, true)),
             _ => unmoved(held, Answer::Malformed),
         },
-        6 => match second {
+        QUIET => match second {
             0 => match third {
                 0 => unmoved(held, quiet_of(nodes, held)),
                 _ => unmoved(held, Answer::Malformed),

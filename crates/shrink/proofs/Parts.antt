@@ -1,10 +1,10 @@
--- Edits of the parts of a fork: a node put at another number, both children edited and then the fork above them, and children's numbers put first in
--- the free chain.
+-- Edits of the parts of a fork: a node put at another number, both children edited and then the fork above them, and
+-- children's numbers put first in the free chain.
 use Prim.Native.Nat.{ℕ, _+_, _<_}
 use mathlib.Core.Path.{_≡_, refl, sym, ap, _∙_}
+use mathlib.Core.Bool.{Bool, true, false}
 use mathlib.Core.List.{List, [], _∷_, _++_, List·Memᴰ, List·Memᴰ·head, List·Memᴰ·tail, List·Memᴰ·cases-cons, List·Memᴰ·eq-of-singleton, Memᴰ·append-left, Memᴰ·append-right, Memᴰ·cast}
 use mathlib.Core.Logic.{_⊎_, inl, inr, ⊎-elim}
-use lib.ListN.{length}
 use Rattle.model.specs.Sound.{Distinct}
 use Rattle.model.specs.Tree as Tree
 use Rattle.model.specs.Tree.{Tree, top, numbers, renumber}
@@ -17,7 +17,8 @@ use Rattle.pool.specs.declared.node.Fork.{Fork}
 use Rattle.pool.specs.declared.node.Node.the-variants.{Leaf as leaf, Fork as fork, Free as unused}
 use Rattle.pool.proofs.Cells.{put-leaf, put-fork, put-free, put-keeps, leaf-says, fork-says}
 use Rattle.pool.proofs.Standing.{holds-same, chained-same}
-use Rattle.spine.proofs.Edits.{top-not-left, top-not-right, not-both}
+use Rattle.spine.proofs.Edits.{once-left, once-right, top-not-left, top-not-right, not-both}
+use Rattle.turn.specs.Sites.{side}
 
 -- ---- numbers
 
@@ -39,18 +40,42 @@ unfolding numbers renumber top
 renumbered n (Tree.leaf m xs) d k i = inl (List·Memᴰ·eq-of-singleton i)
 renumbered n (Tree.fork m l r) d k i = ⊎-elim (λ e. inl e) (λ j. inr (List·Memᴰ·tail j, λ e. d .0 (Memᴰ·cast (sym e) j))) (List·Memᴰ·cases-cons i)
 
+-- what is of a child, or of the other, is of the fork
 module _ (n : ℕ) (l r : Tree) where
-  pub in-left : (k : ℕ) → List·Memᴰ k (numbers l) → List·Memᴰ k (numbers (Tree.fork n l r))
-  unfolding numbers
-  in-left k i = List·Memᴰ·tail (Memᴰ·append-left (numbers r) i)
-
-  pub in-right : (k : ℕ) → List·Memᴰ k (numbers r) → List·Memᴰ k (numbers (Tree.fork n l r))
-  unfolding numbers
-  in-right k i = List·Memᴰ·tail (Memᴰ·append-right (numbers l) i)
-
   pub in-top : (k : ℕ) → k ≡ n → List·Memᴰ k (numbers (Tree.fork n l r))
   unfolding numbers
   in-top k e = List·Memᴰ·head e
+
+  pub in-child : (left : Bool) (k : ℕ) → List·Memᴰ k (numbers (side left l r)) → List·Memᴰ k (numbers (Tree.fork n l r))
+  unfolding numbers
+  in-child true k i = List·Memᴰ·tail (Memᴰ·append-left (numbers r) i)
+  in-child false k i = List·Memᴰ·tail (Memᴰ·append-right (numbers l) i)
+
+  pub in-other : (left : Bool) (k : ℕ) → List·Memᴰ k (numbers (side left r l)) → List·Memᴰ k (numbers (Tree.fork n l r))
+  in-other true = in-child false
+  in-other false = in-child true
+
+-- each number of a fork stands once: the top's is none of a child's, and the one child's are none of the other's
+module _ (n : ℕ) (l r : Tree) (once : Distinct (numbers (Tree.fork n l r))) where
+  pub once-child : (left : Bool) → Distinct (numbers (side left l r))
+  once-child true = once-left n l r once
+  once-child false = once-right n l r once
+
+  pub once-other : (left : Bool) → Distinct (numbers (side left r l))
+  once-other true = once-right n l r once
+  once-other false = once-left n l r once
+
+  pub top-not-child : (left : Bool) (k : ℕ) → List·Memᴰ k (numbers (side left l r)) → k ≡ n → ⊥
+  top-not-child true = top-not-left n l r once
+  top-not-child false = top-not-right n l r once
+
+  pub top-not-other : (left : Bool) (k : ℕ) → List·Memᴰ k (numbers (side left r l)) → k ≡ n → ⊥
+  top-not-other true = top-not-right n l r once
+  top-not-other false = top-not-left n l r once
+
+  pub apart : (left : Bool) (k : ℕ) → List·Memᴰ k (numbers (side left l r)) → List·Memᴰ k (numbers (side left r l)) → ⊥
+  apart true k i j = not-both n l r once k i j
+  apart false k i j = not-both n l r once k j i
 
 -- ---- edits
 
@@ -96,49 +121,36 @@ merged {w} {v} {w′} {n} u u′ s at room out e z =
 
 -- ---- both children of a fork
 
--- words v in which both children of a fork have been edited
-pub record Children (w v : List ℕ) (l r l′ r′ : Tree) : Type 0 where
-  pub size : length v ≡ length w
-  pub left : Holds v l′
-  pub right : Holds v r′
-  pub else : (k : ℕ) → (List·Memᴰ k (numbers l) → ⊥) → (List·Memᴰ k (numbers r) → ⊥) → node-at v k ≡ node-at w k
+held-both : (left : Bool) (w : List ℕ) (child other : Tree) → Holds w child → Holds w other
+    → Holds w (side left child other) × Holds w (side left other child)
+held-both true w child other h k = (h, k)
+held-both false w child other h k = (k, h)
 
-module _ {w v : List ℕ} (n : ℕ) (l r l′ r′ : Tree) (once : Distinct (numbers (Tree.fork n l r))) where
-  -- the right one first
-  pub right-then-left : {u : List ℕ} → shape r′ ≡ shape r → Edited w u (numbers r) r′ → Edited u v (numbers l) l′ → Children w v l r l′ r′
-  right-then-left {u} s p q =
-      record {
-        size = q .size ∙ p .size;
-        left = q .holds;
-        right = holds-same u v r′ (λ k i. q .else k (λ j. not-both n l r once k j (rw (alike-numbers r′ r s) at i))) (p .holds);
-        else = λ k a b. q .else k a ∙ p .else k b;
-      }
-
-  -- the left one first
-  pub left-then-right : {u : List ℕ} → shape l′ ≡ shape l → Edited w u (numbers l) l′ → Edited u v (numbers r) r′ → Children w v l r l′ r′
-  left-then-right {u} s p q =
-      record {
-        size = q .size ∙ p .size;
-        left = holds-same u v l′ (λ k i. q .else k (λ j. not-both n l r once k (rw (alike-numbers l′ l s) at i) j)) (p .holds);
-        right = q .holds;
-        else = λ k a b. q .else k b ∙ p .else k a;
-      }
-
-  -- and then the fork above them
-  pub forked : {w′ : List ℕ} {g : Fork} → shape l′ ≡ shape l → shape r′ ≡ shape r → Children w v l r l′ r′ → n < nodes-in w → g ≡ fork-of l′ r′
-      → w′ ≡ put v n (fork-cell g) → Edited w w′ (numbers (Tree.fork n l r)) (Tree.fork n l′ r′)
-  unfolding numbers
-  forked {w′} {g} a b c room f z =
-      let p : Put v w′ n (fork g) = rw z (put-fork v n g (rw (c .size) room)) in
-      record {
-        size = p .size ∙ c .size;
-        holds = (
-          p .here ∙ ap fork f,
-          holds-same v w′ l′ (λ k i. p .else k (top-not-left n l r once k (rw (alike-numbers l′ l a) at i))) (c .left),
-          holds-same v w′ r′ (λ k i. p .else k (top-not-right n l r once k (rw (alike-numbers r′ r b) at i))) (c .right),
-        );
-        else = λ k out. p .else k (λ same. out (List·Memᴰ·head same)) ∙ c .else k (λ i. out (in-left n l r k i)) (λ i. out (in-right n l r k i));
-      }
+-- the other child is edited first, then the child, and then the fork above them
+pub forked : {w u v w′ : List ℕ} {g : Fork} (left : Bool) (n : ℕ) (l r child other : Tree) → Distinct (numbers (Tree.fork n l r))
+    → shape child ≡ shape (side left l r) → shape other ≡ shape (side left r l) → Edited w u (numbers (side left r l)) other
+    → Edited u v (numbers (side left l r)) child → n < nodes-in w → g ≡ fork-of (side left child other) (side left other child)
+    → w′ ≡ put v n (fork-cell g) → Edited w w′ (numbers (Tree.fork n l r)) (Tree.fork n (side left child other) (side left other child))
+forked {w} {u} {v} {w′} {g} left n l r child other once a b p q room f z =
+    let put-top : Put v w′ n (fork g) = rw z (put-fork v n g (rw (q .size, p .size) room)) in
+    let of-child : (k : ℕ) → List·Memᴰ k (numbers child) → List·Memᴰ k (numbers (side left l r)) =
+    λ k i. rw (alike-numbers child (side left l r) a) at i in
+    let of-other : (k : ℕ) → List·Memᴰ k (numbers other) → List·Memᴰ k (numbers (side left r l)) =
+    λ k i. rw (alike-numbers other (side left r l) b) at i in
+    let here = holds-same v w′ child (λ k i. put-top .else k (top-not-child n l r once left k (of-child k i))) (q .holds) in
+    let there =
+    holds-same u w′ other
+    (λ k i. put-top .else k (top-not-other n l r once left k (of-other k i)) ∙ q .else k (λ j. apart n l r once left k j (of-other k i)))
+    (p .holds) in
+    let both = held-both left w′ child other here there in
+    record {
+      size = put-top .size ∙ q .size ∙ p .size;
+      holds = (put-top .here ∙ ap fork f, both .0, both .1);
+      else =
+          λ k out.
+          put-top .else k (λ same. out (in-top n l r k same)) ∙ q .else k (λ i. out (in-child n l r left k i))
+          ∙ p .else k (λ i. out (in-other n l r left k i));
+    }
 
 -- ---- children's numbers put in the free chain
 
@@ -171,7 +183,8 @@ module _ {w v w′ : List ℕ} (n head : ℕ) (l r t : Tree) (free : List ℕ)
   -- a number that is not the fork's is neither child's top
   beside : (k : ℕ) → (List·Memᴰ k (numbers (Tree.fork n l r)) → ⊥) → node-at w′ k ≡ node-at w k
   beside k out =
-      past k (λ same. out (in-left n l r k (Memᴰ·cast same (top-in l)))) (λ same. out (in-right n l r k (Memᴰ·cast same (top-in r)))) ∙ e .else k out
+      past k (λ same. out (in-child n l r true k (Memᴰ·cast same (top-in l))))
+      (λ same. out (in-child n l r false k (Memᴰ·cast same (top-in r)))) ∙ e .else k out
 
   pub freed-edited : Edited w w′ (numbers (Tree.fork n l r) ++ free) t
   freed-edited =

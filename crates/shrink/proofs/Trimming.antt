@@ -1,5 +1,5 @@
--- What a remove does to a tree, apart from words: the top number stays, it counts one mark less, and of the numbers none is lost or doubled. It frees
--- two numbers or none, since the child that is joined away is a leaf.
+-- What a remove does to a tree, apart from words: the top number stays, it counts one mark less, and of the numbers none
+-- is lost or doubled. It frees two numbers or none, since the child that is joined away is a leaf.
 use Prim.Native.Nat.{ℕ, suc, _+_, _-_, _≤_, _<_}
 use native.Mathlib.Omega.{arith}
 use mathlib.Core.Path.{_≡_, refl, sym, ap}
@@ -13,6 +13,7 @@ use Rattle.model.specs.Marks.{access, count}
 use Rattle.model.specs.Sound.{Balanced, Sized, Whole}
 use Rattle.model.specs.Tree.{Tree, leaf, fork, top, marks, size, height, numbers, renumber}
 use Rattle.model.specs.Turn.{rebalance}
+use Rattle.model.specs.Word.{digit}
 use Rattle.model.proofs.BalanceMended.{remove-balanced}
 use Rattle.model.proofs.Cases.{remove-cases, mend-left-cases, mend-right-cases}
 use Rattle.model.proofs.Content.{remove-marks, remove-size, size-marks}
@@ -21,10 +22,9 @@ use Rattle.model.proofs.Leaves.{small-leaf}
 use Rattle.model.proofs.Numbers.{remove-numbers}
 use Rattle.model.proofs.Rearranged.{weigh-append, rearranged-sym, rearranged-member}
 use Rattle.model.proofs.Tops.{rebalance-top}
-use Rattle.spine.specs.Edges.{bit-of}
-use Rattle.spine.proofs.Ends.{count-one}
 use Rattle.turn.specs.Sites.{side}
 use Rattle.turn.proofs.Sites.{Altered}
+use Rattle.descent.proofs.Digits.{count-cons}
 
 -- ---- the top number stays
 
@@ -49,10 +49,7 @@ remove-top i (fork n l r) =
 
 -- ---- one mark less
 
-count-cons : (b : Bool) (xs : List Bool) → count true (b ∷ xs) ≡ bit-of b + count true xs
-count-cons b xs = omega (arith, count-append true (b ∷ []) xs, count-one b)
-
-count-remove : (i : ℕ) (xs : List Bool) → i < length xs → count true xs ≡ count true (Marks.remove i xs) + bit-of (access i xs)
+count-remove : (i : ℕ) (xs : List Bool) → i < length xs → count true xs ≡ count true (Marks.remove i xs) + digit (access i xs)
 unfolding Marks.remove access
 count-remove i xs h =
     let x : Bool = getD xs i false in
@@ -65,7 +62,7 @@ count-remove i xs h =
       count-append true (take i xs) (drop (suc i) xs),
     )
 
-pub remove-count : (i : ℕ) (t : Tree) → i < size t → count true (marks t) ≡ count true (marks (remove i t .tree)) + bit-of (access i (marks t))
+pub remove-count : (i : ℕ) (t : Tree) → i < size t → count true (marks t) ≡ count true (marks (remove i t .tree)) + digit (access i (marks t))
 remove-count i t h = rw (remove-marks i t h) (count-remove i (marks t) (omega (arith, size-marks t)))
 
 -- ---- what it makes of the tree

@@ -5,39 +5,47 @@ use mathlib.Core.Path.{_≡_}
 use mathlib.Core.Bool.{Bool}
 use mathlib.Core.List.{List, _++_, List·Memᴰ}
 use lib.IntN.{ℤ}
-use lib.ListN as ListN
+use lib.ListN.{length}
 use Rattle.model.specs.Edit.{remove}
 use Rattle.model.specs.Limits.{levels}
 use Rattle.model.specs.Marks.{access}
-use Rattle.model.specs.Tree.{Tree, marks, size, numbers}
+use Rattle.model.specs.Tree.{marks, numbers}
 use Rattle.pool.specs.Layout.{Chained, Edited, first-of}
 use Rattle.pool.specs.declared.chain.Chain.{Chain}
-use Rattle.turn.specs.Sites.{Site, After}
+use Rattle.turn.specs.Sites.{After}
+use Rattle.descent.specs.Stands.{Stands}
 use Rattle.shrink.specs.declared.removing.Removed.{Removed}
 
--- a tree at n, of `length` marks, with a mark at the place `index`, and the free chain beside it
-pub record ToRemove (w : List ℕ) (n levels end head length index : ℕ) (t : Tree) (free : List ℕ) : Type 0 where
-  pub site : Site w n levels end head t free
-  pub total : size t ≡ length
-  pub within : index < length
+-- there is a mark at a place of the tree at n
+pub record ToRemove (w : List ℕ) (n levels head total index : ℕ) : Type 0 where
+  pub at : Stands w n levels head total
+  pub within : index < total
 
--- The mark has gone, and it was `bit`. What was freed stands first in the chain, which begins at `head` now, and the
--- tree has grown in height by `by`.
-pub record Gone (w w′ : List ℕ) (end head : ℕ) (by : ℤ) (bit : Bool) (index : ℕ) (t : Tree) (free : List ℕ) : Type 0 where
-  pub after : After w w′ end head by t (remove index t .tree) free (remove index t .freed ++ free)
-  pub mark : bit ≡ access index (marks t)
+module _ {w : List ℕ} {n levels head total index : ℕ} (b : ToRemove w n levels head total index) where
+  -- the chain with what was freed first in it
+  abbrev pub with-freed : List ℕ
+  with-freed = remove index (b .at .tree) .freed ++ b .at .free
+
+-- The mark has gone, and it was `bit`. The chain begins at `head′` now, and the tree has grown in height by `by`.
+pub record Gone {w : List ℕ} {n levels head total index : ℕ} (b : ToRemove w n levels head total index)
+    (w′ : List ℕ) (head′ : ℕ) (by : ℤ) (bit : Bool) : Type 0 where
+  pub after :
+      After w w′ (b .at .end) head′ by (b .at .tree) (remove index (b .at .tree) .tree) (b .at .free) (with-freed b)
+  pub mark : bit ≡ access index (marks (b .at .tree))
 
 -- the same of a whole pool: the chain is told by its first number and its length, and its end is no number of the tree
-pub record ToTake (w : List ℕ) (root length : ℕ) (chain : Chain) (index end : ℕ) (t : Tree) (free : List ℕ) : Type 0 where
-  pub below : ToRemove w root levels end (chain .first) length index t free
-  pub count : ListN.length free ≡ chain .count
-  pub past : List·Memᴰ end (numbers t) → ⊥
+pub record ToRemoveFrom (w : List ℕ) (root : ℕ) (chain : Chain) (total index : ℕ) : Type 0 where
+  pub place : ToRemove w root levels (chain .first) total index
+  pub count-is : length (place .at .free) ≡ chain .count
+  pub past : List·Memᴰ (place .at .end) (numbers (place .at .tree)) → ⊥
   pub fits : chain .count + 2 < 2 ^ 64
 
--- what is left in the words, and what is handed back: the mark, and the chain with what was freed first in it
-pub record Took (w w′ : List ℕ) (end index : ℕ) (t : Tree) (free : List ℕ) (r : Removed) : Type 0 where
-  pub edited : Edited w w′ (numbers t ++ free) (remove index t .tree)
-  pub chained : Chained w′ end (remove index t .freed ++ free)
-  pub first : first-of end (remove index t .freed ++ free) ≡ r .chain .first
-  pub count : ListN.length (remove index t .freed ++ free) ≡ r .chain .count
-  pub mark : r .bit ≡ access index (marks t)
+-- what is left in the words, and what is handed back
+pub record RemovedFrom {w : List ℕ} {root : ℕ} {chain : Chain} {total index : ℕ}
+    (b : ToRemoveFrom w root chain total index) (w′ : List ℕ) (r : Removed) : Type 0 where
+  pub edited :
+      Edited w w′ (numbers (b .place .at .tree) ++ b .place .at .free) (remove index (b .place .at .tree) .tree)
+  pub chained : Chained w′ (b .place .at .end) (with-freed (b .place))
+  pub first : first-of (b .place .at .end) (with-freed (b .place)) ≡ r .chain .first
+  pub count-is : length (with-freed (b .place)) ≡ r .chain .count
+  pub mark : r .bit ≡ access index (marks (b .place .at .tree))

@@ -1,17 +1,14 @@
 // Mending a fork of which one child, a leaf, has too few marks left: it is joined to the nearest leaf of the other
 // child, or borrows a mark from it.
 ghost use mathlib.Core.Path.{_≡_};
-ghost use mathlib.Core.Bool.{true, false};
-ghost use mathlib.Core.List.{List, [], _∷_};
-ghost use Prim.Native.Nat.{ℕ, _+_, _<_, _^_};
-ghost use Rattle.model.specs.Edit.{drop-first, drop-last, first-mark, last-mark, put-after, put-before};
-ghost use Rattle.model.specs.Tree as Tree;
-ghost use Rattle.model.specs.Tree.{Tree, marks, numbers, renumber, size};
+ghost use mathlib.Core.List.{[], _∷_};
+ghost use Prim.Native.Nat.{_+_, _<_, _^_};
+ghost use lib.ListN as ListN;
 ghost use Rattle.bits.specs.Leaf.{leaf-of};
-ghost use Rattle.pool.specs.Layout.{Edited};
-ghost use Rattle.pool.specs.Node.{fork-cell, fork-in, free-cell, node-at, put};
-ghost use Rattle.spine.specs.Edges.{bit-of};
-ghost use Rattle.shrink.specs.Mending.{Counted, Mended, ToBorrowFirst, ToBorrowLast, ToMend, ToMergeLeft, ToMergeRight, ToUncount, one-less, one-more};
+ghost use Rattle.pool.specs.Node.{fork-cell, fork-in, node-at, put};
+ghost use Rattle.descent.specs.Stands.{one-more};
+ghost use Rattle.shrink.specs.Mending.{Lent, Mended, Merged, ToBorrow, ToMeasure, ToMend, ToMerge, ToUncount};
+ghost use Rattle.shrink.specs.Mending.{both-freed, next-leaf, one-less};
 use bits::Leaf;
 use pool::Fork;
 use pool::fork_at;
@@ -27,11 +24,9 @@ use spine::last_leaf_size;
 use spine::put_after;
 use spine::put_before;
 
-// The neighbouring leaf is joined where it holds at most this many, and lends a mark where it holds more.
-const LEAF_LEAN: u64 = 33;
-
-// The most marks that a leaf has bits for.
-const LEAF_BITS: u64 = 128;
+// The fewest marks that a leaf keeps beside another. A leaf of so many that loses one is mended; the neighbouring leaf
+// is joined to it where it holds at most as many, and lends a mark where it holds more.
+pub const LEAF_LEAST: u64 = 33;
 
 // A leaf of one mark.
 fn lone(bit: bool) -> Leaf
@@ -45,7 +40,7 @@ fn lone(bit: bool) -> Leaf
 
 // A fork whose left child has one mark more.
 fn more_left(fork: Fork, bit: bool) -> Fork
-    requires { ⌜ (fork .«left_total» + 1 < 2 ^ 64) × (fork .«left_ones» + bit-of bit < 2 ^ 64) ⌝ }
+    requires { ⌜ (fork .«left_total» + 1 < 2 ^ 64) × (fork .«left_ones» + 1 < 2 ^ 64) ⌝ }
     ensures { λ r. ⌜ r ≡ one-more fork bit ⌝ }
 {
     Fork {
@@ -57,50 +52,45 @@ fn more_left(fork: Fork, bit: bool) -> Fork
     }
 }
 
-// A fork with one mark less in its left child, if `left`, or in its right one.
-fn uncounted(fork: Fork, left: bool, bit: bool) -> Fork
-    requires { ⌜ Counted fork left bit ⌝ }
-    ensures { λ r. ⌜ r ≡ one-less fork left bit ⌝ }
-{
-    Fork {
-        left: fork.left,
-        right: fork.right,
-        left_total: fork.left_total - left as u64,
-        left_ones: fork.left_ones - (left & bit) as u64,
-        balance: fork.balance,
-    }
-}
-
 // The fork at n has one mark less, in its left child or in its right one.
 pub fn uncount(nodes: &mut [u64], n: u64, left: bool, bit: bool)
     requires { ⌜ ToUncount (now nodes) n left bit ⌝ }
-    ensures { λ _. ⌜ now (nodes .exit) ≡ put (now (nodes .entry)) n (fork-cell (one-less (fork-in (node-at (now (nodes .entry)) n)) left bit)) ⌝ }
+    ensures { λ _. ⌜ now (nodes .exit)
+        ≡ put (now (nodes .entry)) n (fork-cell (one-less (fork-in (node-at (now (nodes .entry)) n)) left bit)) ⌝ }
 {
     less_left(nodes, n, left as u64, (left & bit) as u64);
 }
 
-// The left child, a leaf, is joined to the first leaf of the right one, whose content moves to the number n.
-fn merge_left(nodes: &mut [u64], n: u64, fork: Fork, levels: u64)
-    requires { ⌜ ((l : Tree) × (r : Tree) × ToMergeLeft (now nodes) n levels fork l r) ⌝ }
-    ensures { λ _. ⌜ ((l : Tree) (r : Tree) → ToMergeLeft (now (nodes .entry)) n levels fork l r → Edited (now (nodes .entry)) (now (nodes .exit)) (n ∷ numbers r) (renumber n (put-before (marks l) r))) ⌝ }
+// How many marks the leaf next to a child holds, of a fork that holds `length`.
+fn next_size(nodes: &[u64], fork: Fork, left: bool, length: u64, levels: u64) -> u64
+    requires { ⌜ ToMeasure (now nodes) levels fork length ⌝ }
+    ensures { λ r. ⌜ ((b : ToMeasure (now (nodes .entry)) levels fork length)
+        → r ≡ ListN.length (next-leaf left (b .over .l) (b .over .r))) ⌝ }
 {
-    let leaf = leaf_at(nodes, fork.left);
-    put_before(
-        nodes,
-        fork.right,
-        leaf,
-        fork.left_total,
-        leaf.count_before(LEAF_BITS, true),
-        levels,
-    );
-    move_node(nodes, fork.right, n);
+    if left {
+        return first_leaf_size(nodes, fork.right, length - fork.left_total, levels);
+    }
+    last_leaf_size(nodes, fork.left, fork.left_total, levels)
 }
 
-// The mirror image: the right child, a leaf, is joined to the last leaf of the left one.
-fn merge_right(nodes: &mut [u64], n: u64, fork: Fork, levels: u64)
-    requires { ⌜ ((l : Tree) × (r : Tree) × ToMergeRight (now nodes) n levels fork l r) ⌝ }
-    ensures { λ _. ⌜ ((l : Tree) (r : Tree) → ToMergeRight (now (nodes .entry)) n levels fork l r → Edited (now (nodes .entry)) (now (nodes .exit)) (n ∷ numbers l) (renumber n (put-after (marks r) l))) ⌝ }
+// The short child is joined to the leaf next to it. The content of the other child's top moves to the number n.
+fn merge(nodes: &mut [u64], n: u64, fork: Fork, left: bool, levels: u64)
+    requires { ⌜ ToMerge (now nodes) n levels fork left ⌝ }
+    ensures { λ _. ⌜ ((b : ToMerge (now (nodes .entry)) n levels fork left) → Merged b (now (nodes .exit))) ⌝ }
 {
+    if left {
+        let leaf = leaf_at(nodes, fork.left);
+        put_before(
+            nodes,
+            fork.right,
+            leaf,
+            fork.left_total,
+            fork.left_ones,
+            levels,
+        );
+        move_node(nodes, fork.right, n);
+        return;
+    }
     let leaf = leaf_at(nodes, fork.right);
     put_after(nodes, fork.left, fork.left_total, leaf, levels);
     move_node(nodes, fork.left, n);
@@ -108,71 +98,43 @@ fn merge_right(nodes: &mut [u64], n: u64, fork: Fork, levels: u64)
 
 // Puts both children's numbers first in the free chain, the left one and then the right one.
 fn free_children(nodes: &mut [u64], head: &mut u64, fork: Fork)
-    ensures { λ _. ⌜ (now (head .exit) ≡ fork .right) × (now (nodes .exit) ≡ put (put (now (nodes .entry)) (fork .left) (free-cell (now (head .entry)))) (fork .right) (free-cell (fork .left))) ⌝ }
+    ensures { λ _. ⌜ now (head .exit) ≡ fork .right ⌝ }
+    ensures { λ _. ⌜ now (nodes .exit) ≡ both-freed (now (nodes .entry)) (now (head .entry)) fork ⌝ }
 {
     set_free(nodes, fork.left, *head);
     set_free(nodes, fork.right, fork.left);
     *head = fork.right;
 }
 
-// The first mark of the right child goes to the end of the left one.
-fn borrow_first(nodes: &mut [u64], n: u64, fork: Fork, levels: u64)
-    requires { ⌜ ((l : Tree) × (r : Tree) × ToBorrowFirst (now nodes) n levels fork l r) ⌝ }
-    ensures { λ _. ⌜ ((l : Tree) (r : Tree) → ToBorrowFirst (now (nodes .entry)) n levels fork l r → Edited (now (nodes .entry)) (now (nodes .exit)) (numbers (Tree.fork n l r)) (Tree.fork n (put-after (first-mark r) l) (drop-first r))) ⌝ }
-{
-    let bit = drop_first(nodes, fork.right, levels);
-    put_after(nodes, fork.left, fork.left_total, lone(bit), levels);
-    set_fork(nodes, n, more_left(fork, bit));
-}
-
-// The last mark of the left child goes before the first of the right one.
-fn borrow_last(nodes: &mut [u64], n: u64, fork: Fork, levels: u64)
-    requires { ⌜ ((l : Tree) × (r : Tree) × ToBorrowLast (now nodes) n levels fork l r) ⌝ }
-    ensures { λ _. ⌜ ((l : Tree) (r : Tree) → ToBorrowLast (now (nodes .entry)) n levels fork l r → Edited (now (nodes .entry)) (now (nodes .exit)) (numbers (Tree.fork n l r)) (Tree.fork n (drop-last l) (put-before (last-mark l) r))) ⌝ }
-{
-    let bit = drop_last(nodes, fork.left, fork.left_total, levels);
-    put_before(nodes, fork.right, lone(bit), 1, bit as u64, levels);
-    set_fork(nodes, n, uncounted(fork, true, bit));
-}
-
-// The left child of the fork at n, which holds `length`, is a leaf with too few marks.
-fn mend_left(nodes: &mut [u64], head: &mut u64, n: u64, length: u64, levels: u64) -> i64
-    requires { ⌜ ((l : Tree) × (r : Tree) × (free : List ℕ) × (end : ℕ) × ToMend (now nodes) n levels end (now head) true l r free × (size l + size r ≡ length)) ⌝ }
-    ensures { λ g. ⌜ ((l : Tree) (r : Tree) (free : List ℕ) (end : ℕ) → ToMend (now (nodes .entry)) n levels end (now (head .entry)) true l r free → size l + size r ≡ length → Mended (now (nodes .entry)) (now (nodes .exit)) n end (now (head .exit)) true g l r free) ⌝ }
-{
-    let fork = fork_at(nodes, n);
-    if first_leaf_size(nodes, fork.right, length - fork.left_total, levels) <= LEAF_LEAN {
-        merge_left(nodes, n, fork, levels);
-        free_children(nodes, head, fork);
-        return -1;
-    }
-    borrow_first(nodes, n, fork, levels);
-    0
-}
-
-// The mirror image.
-fn mend_right(nodes: &mut [u64], head: &mut u64, n: u64, levels: u64) -> i64
-    requires { ⌜ ((l : Tree) × (r : Tree) × (free : List ℕ) × (end : ℕ) × ToMend (now nodes) n levels end (now head) false l r free) ⌝ }
-    ensures { λ g. ⌜ ((l : Tree) (r : Tree) (free : List ℕ) (end : ℕ) → ToMend (now (nodes .entry)) n levels end (now (head .entry)) false l r free → Mended (now (nodes .entry)) (now (nodes .exit)) n end (now (head .exit)) false g l r free) ⌝ }
-{
-    let fork = fork_at(nodes, n);
-    if last_leaf_size(nodes, fork.left, fork.left_total, levels) <= LEAF_LEAN {
-        merge_right(nodes, n, fork, levels);
-        free_children(nodes, head, fork);
-        return -1;
-    }
-    borrow_last(nodes, n, fork, levels);
-    0
-}
-
-// A child of the fork at n, the left one or not, is a leaf with too few marks. Says by how much the fork has grown in
-// height.
-pub fn mend(nodes: &mut [u64], head: &mut u64, n: u64, left: bool, length: u64, levels: u64) -> i64
-    requires { ⌜ ((l : Tree) × (r : Tree) × (free : List ℕ) × (end : ℕ) × ToMend (now nodes) n levels end (now head) left l r free × (size l + size r ≡ length)) ⌝ }
-    ensures { λ g. ⌜ ((l : Tree) (r : Tree) (free : List ℕ) (end : ℕ) → ToMend (now (nodes .entry)) n levels end (now (head .entry)) left l r free → size l + size r ≡ length → Mended (now (nodes .entry)) (now (nodes .exit)) n end (now (head .exit)) left g l r free) ⌝ }
+// The leaf next to the short child lends it the mark that stands next to it.
+fn borrow(nodes: &mut [u64], n: u64, fork: Fork, left: bool, levels: u64)
+    requires { ⌜ ToBorrow (now nodes) n levels fork left ⌝ }
+    ensures { λ _. ⌜ ((b : ToBorrow (now (nodes .entry)) n levels fork left) → Lent b (now (nodes .exit))) ⌝ }
 {
     if left {
-        return mend_left(nodes, head, n, length, levels);
+        let bit = drop_first(nodes, fork.right, levels);
+        put_after(nodes, fork.left, fork.left_total, lone(bit), levels);
+        set_fork(nodes, n, more_left(fork, bit));
+        return;
     }
-    mend_right(nodes, head, n, levels)
+    let bit = drop_last(nodes, fork.left, fork.left_total, levels);
+    put_before(nodes, fork.right, lone(bit), 1, bit as u64, levels);
+    uncount(nodes, n, true, bit);
+}
+
+// A child of the fork at n, which holds `length`, is a leaf with too few marks: the left one or not. Says by how much
+// the fork has grown in height.
+pub fn mend(nodes: &mut [u64], head: &mut u64, n: u64, left: bool, length: u64, levels: u64) -> i64
+    requires { ⌜ ToMend (now nodes) n levels (now head) left length ⌝ }
+    ensures { λ g. ⌜ ((b : ToMend (now (nodes .entry)) n levels (now (head .entry)) left length)
+        → Mended b (now (nodes .exit)) (now (head .exit)) g) ⌝ }
+{
+    let fork = fork_at(nodes, n);
+    if next_size(nodes, fork, left, length, levels) <= LEAF_LEAST {
+        merge(nodes, n, fork, left, levels);
+        free_children(nodes, head, fork);
+        return -1;
+    }
+    borrow(nodes, n, fork, left, levels);
+    0
 }

@@ -1,20 +1,15 @@
 // Taking a mark out of a tree, by recursion on node numbers.
-ghost use mathlib.Core.List.{List};
-ghost use Prim.Native.Nat.{ℕ};
-ghost use Rattle.model.specs.Tree.{Tree};
-ghost use Rattle.shrink.specs.Removing.{Gone, ToRemove, ToTake, Took};
+ghost use Rattle.shrink.specs.Removing.{Gone, RemovedFrom, ToRemove, ToRemoveFrom};
+use crate::mending::LEAF_LEAST;
 use crate::mending::mend;
 use crate::mending::uncount;
 use pool::Chain;
-use pool::Node;
+use pool::TreeNode;
 use pool::leaf_or_fork;
 use pool::set_leaf;
 use tree::LEVELS;
 use tree::toward;
 use turn::child_changed;
-
-// A child that held at most this many before it lost a mark has too few now.
-const LEAF_LEAST: u64 = 33;
 
 // A merge frees two nodes.
 const MERGE_NODES: u64 = 2;
@@ -36,45 +31,38 @@ fn remove_below(
     index: u64,
     levels: u64,
 ) -> i64
-    requires { ⌜ ((t : Tree) × (free : List ℕ) × (end : ℕ) × ToRemove (now nodes) n levels end (now head) length index t free) ⌝ }
-    ensures { λ g. ⌜ ((t : Tree) (free : List ℕ) (end : ℕ) → ToRemove (now (nodes .entry)) n levels end (now (head .entry)) length index t free → Gone (now (nodes .entry)) (now (nodes .exit)) end (now (head .exit)) g (now (bit .exit)) index t free) ⌝ }
+    requires { ⌜ ToRemove (now nodes) n levels (now head) length index ⌝ }
+    ensures { λ g. ⌜ ((b : ToRemove (now (nodes .entry)) n levels (now (head .entry)) length index)
+        → Gone b (now (nodes .exit)) (now (head .exit)) g (now (bit .exit))) ⌝ }
 {
     match leaf_or_fork(nodes, n) {
-        Node::Leaf(leaf) => {
+        TreeNode::Leaf(leaf) => {
             set_leaf(nodes, n, leaf.remove(index));
             *bit = leaf.bit_at(index);
             0
         }
-        Node::Fork(fork) => {
+        TreeNode::Fork(fork) => {
             let step = toward(fork, length, index);
-            let change = remove_below(
-                nodes,
-                head,
-                bit,
-                step.child,
-                step.length,
-                step.index,
-                levels - 1,
-            );
+            let below = levels - 1;
+            let change = remove_below(nodes, head, bit, step.child, step.length, step.index, below);
             uncount(nodes, n, step.left, *bit);
             if step.length <= LEAF_LEAST {
-                return mend(nodes, head, n, step.left, length - 1, levels - 1);
+                return mend(nodes, head, n, step.left, length - 1, below);
             }
             if change == 0 {
                 return 0;
             }
             child_changed(nodes, n, step.left, change)
         }
-        Node::Free(_) => 0,
-        Node::Broken => 0,
     }
 }
 
 // Takes the mark at a place out, and hands it back with the free chain, whose head has moved exactly where two leaves
 // were joined.
 pub fn remove(nodes: &mut [u64], root: u64, length: u64, chain: Chain, index: u64) -> Removed
-    requires { ⌜ ((t : Tree) × (free : List ℕ) × (end : ℕ) × ToTake (now nodes) root length chain index end t free) ⌝ }
-    ensures { λ r. ⌜ ((t : Tree) (free : List ℕ) (end : ℕ) → ToTake (now (nodes .entry)) root length chain index end t free → Took (now (nodes .entry)) (now (nodes .exit)) end index t free r) ⌝ }
+    requires { ⌜ ToRemoveFrom (now nodes) root chain length index ⌝ }
+    ensures { λ r. ⌜ ((b : ToRemoveFrom (now (nodes .entry)) root chain length index)
+        → RemovedFrom b (now (nodes .exit)) r) ⌝ }
 {
     let mut head = chain.first;
     let mut bit = false;

@@ -8,7 +8,8 @@ use lib.Dec.{eqb}
 use Rattle.bits.specs.declared.leaf.Leaf.{Leaf}
 use Rattle.pool.specs.declared.node.Fork.{Fork}
 use Rattle.pool.specs.declared.node.Node.the-variants.{Free as free, Leaf as leaf, Fork as fork, Broken as bad}
-use Rattle.sound.specs.Answer.{Says, Answered}
+use Rattle.model.specs.Says.{Says}
+use Rattle.sound.specs.Answer.{Answered}
 use Rattle.sound.specs.declared.visit.Found.{Found}
 use Rattle.sound.specs.declared.visit.Seen.{Seen}
 use Rattle.sound.specs.declared.visit.Seen.the-variants.{Sound as sound, Broken as broken}

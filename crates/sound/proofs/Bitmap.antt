@@ -44,7 +44,8 @@ module _ {met met₁ : List ℕ} (ms ns : List ℕ) where
       record {
         distinct = distinct-join ms ns (f .distinct) (g .distinct) (λ k h l. never (m .here k h) (g .unmet k l));
         room = λ k h. ⊎-elim (f .room k) (λ l. omega (arith, g .room k l, m .size)) (List·Memᴰ·append-cases ms h);
-        unmet = λ k h. ⊎-elim (f .unmet k) (λ l. by-test (met-at met k) (λ e. never (m .kept k e) (g .unmet k l)) (λ e. e)) (List·Memᴰ·append-cases ms h);
+        unmet = λ k h. ⊎-elim (f .unmet k) (λ l. by-test (met-at met k) (λ e. never (m .kept k e) (g .unmet k l)) (λ e. e))
+            (List·Memᴰ·append-cases ms h);
       }
 
   pub marked-join : {met₂ : List ℕ} → Marked met met₁ ms → Marked met₁ met₂ ns → Marked met met₂ (ms ++ ns)
@@ -87,7 +88,8 @@ power-other j b ne =
     (λ _ h.
     let m : ℕ = b - suc j in
     let e : b ≡ suc m + j = omega arith in
-    let quotient : 2 ^ b / 2 ^ j ≡ 2 ^ m * 2 = ap (λ (x : ℕ). 2 ^ x / 2 ^ j) e ∙ ap (λ (x : ℕ). x / 2 ^ j) (pow-add 2 (suc m) j) ∙ shl-shr (2 ^ suc m) j ∙ pow-suc 2 m in
+    let quotient : 2 ^ b / 2 ^ j ≡ 2 ^ m * 2 =
+    ap (λ (x : ℕ). 2 ^ x / 2 ^ j) e ∙ ap (λ (x : ℕ). x / 2 ^ j) (pow-add 2 (suc m) j) ∙ shl-shr (2 ^ suc m) j ∙ pow-suc 2 m in
     omega arith)
     (λ _ h. ap (λ (x : ℕ). x % 2) (div-eq-of-lt (pow-lt {j = j} (omega arith))))
 
@@ -104,7 +106,8 @@ module _ (met : List ℕ) (n : ℕ) (here : n / 64 < length met) where
   -- a node of the same word, and of another
   same-word : (k : ℕ) → k / 64 ≡ n / 64 → met-at marked k ≡ odd (bitOr word (2 ^ (n % 64)) / 2 ^ (k % 64))
   unfolding met-at
-  same-word k e = ap (λ (x : ℕ). odd (x / 2 ^ (k % 64))) (ap (λ (x : ℕ). getD marked x 0) e ∙ getD-set-same met (n / 64) (bitOr word (2 ^ (n % 64))) 0 here)
+  same-word k e = ap (λ (x : ℕ). odd (x / 2 ^ (k % 64)))
+      (ap (λ (x : ℕ). getD marked x 0) e ∙ getD-set-same met (n / 64) (bitOr word (2 ^ (n % 64))) 0 here)
 
   met-word : (k : ℕ) → k / 64 ≡ n / 64 → met-at met k ≡ odd (word / 2 ^ (k % 64))
   unfolding met-at

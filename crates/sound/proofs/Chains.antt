@@ -11,7 +11,7 @@ use Rattle.pool.specs.Node.{node-at}
 use Rattle.pool.specs.declared.node.Node.the-variants.{Free as free}
 use Rattle.sound.specs.Links.{Links, Linked}
 use Rattle.sound.specs.Met.{Fresh, Marked, Meets}
-use Rattle.sound.specs.Answer.{Says}
+use Rattle.model.specs.Says.{Says}
 use Rattle.sound.proofs.Answers.{never, says-no, says-same}
 use Rattle.sound.proofs.Bitmap.{fresh-first, fresh-second, fresh-join}
 
@@ -36,7 +36,8 @@ begins {w} {end} (m ∷ ks) some k =
     (rw (k .begins) at (fresh-first (m ∷ []) ks (k .fresh)), (first-of end ks, ap (node-at w) (sym (k .begins)) ∙ k .chained .0))
 
 -- a link put before a chain, and taken off it
-link-back : {w : List ℕ} {end : ℕ} {met met₁ : List ℕ} {n left next : ℕ} → Fresh met (n ∷ []) → Marked met met₁ (n ∷ []) → node-at w n ≡ free next → 1 ≤ left
+link-back : {w : List ℕ} {end : ℕ} {met met₁ : List ℕ} {n left next : ℕ} → Fresh met (n ∷ []) → Marked met met₁ (n ∷ []) → node-at w n ≡ free next
+    → 1 ≤ left
     → (ks : List ℕ) → Links w end met₁ next (left - 1) ks → Links w end met n left (n ∷ ks)
 unfolding first-of
 link-back {n = n} f m read some ks k =
@@ -53,8 +54,16 @@ unfolding first-of
 link-forth m read some [] k = absurd (omega (arith, k .counts))
 link-forth {w} {end} {next = next} m read some (j ∷ ks) k =
     let same : free (first-of end ks) ≡ free next = sym (k .chained .0) ∙ ap (node-at w) (k .begins) ∙ read in
-    let begins : first-of end ks ≡ next = cc in
-    (ks, record { chained = k .chained .1; begins = begins; counts = omega (arith, k .counts); fresh = fresh-second (j ∷ []) ks (k .fresh) (rw (k .begins) m) })
+    let begins : first-of end ks ≡ next = cc in (
+      ks,
+      record {
+        chained = k .chained .1;
+        begins = begins;
+        counts = omega (arith, k .counts);
+        fresh = fresh-second (j ∷ []) ks (k .fresh)
+            (rw (k .begins) m);
+      },
+    )
 
 -- no link at all: the chain's end
 ended : {w : List ℕ} {end : ℕ} {met : List ℕ} {n left : ℕ} → n ≡ end → left ≡ 0 → Links w end met n left []

@@ -37,7 +37,8 @@ leaf-length x = length-append (bits 64 (x .low)) (bits 64 (x .high)) ∙ ap₂ (
 leaf-own : (x : Leaf) → x .low < 2 ^ 64 → x .high < 2 ^ 64 → x ≡ leaf-of (bits-of x)
 unfolding bits-of
 leaf-own x l h =
-    leaf-is (bits 64 (x .low) ++ bits 64 (x .high)) (bits 64 (x .low)) (bits 64 (x .high)) refl (bits-length 64 (x .low)) (sym (packed-own (x .low) l)) (sym (packed-own (x .high) h))
+    leaf-is (bits 64 (x .low) ++ bits 64 (x .high)) (bits 64 (x .low)) (bits 64 (x .high)) refl (bits-length 64 (x .low))
+    (sym (packed-own (x .low) l)) (sym (packed-own (x .high) h))
 
 module _ (x : Leaf) (n : ℕ) where
   rank-held : rank true n (bits-of x) ≡ ones (held x n)
@@ -62,7 +63,8 @@ module _ (x : Leaf) (n : ℕ) where
   held-ends h e =
       let size : length (held x n) ≡ n = length-take-le n (bits-of x) (omega (arith, leaf-length x)) in
       let zeros : bits-of x ≡ held x n ++ replicate (128 - length (held x n)) false = ap bits-of e ∙ held-bits (held x n) (omega arith) in
-      let all : ones (bits-of x) ≡ ones (held x n) + ones (replicate (128 - length (held x n)) false) = ap ones zeros ∙ ones-append (held x n) (replicate (128 - length (held x n)) false) in
+      let all : ones (bits-of x) ≡ ones (held x n) + ones (replicate (128 - length (held x n)) false) =
+      ap ones zeros ∙ ones-append (held x n) (replicate (128 - length (held x n)) false) in
       omega (arith, rank-held, rank-whole, ones-quiet (128 - length (held x n)))
 
 -- the marks of a leaf that holds them

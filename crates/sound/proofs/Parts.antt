@@ -21,7 +21,7 @@ use Rattle.pool.specs.declared.node.Node.{Node}
 use Rattle.pool.specs.declared.node.Node.the-variants.{Free as free, Leaf as leaf, Fork as fork, Broken as broken}
 use Rattle.sound.specs.Met.{Fresh, Marked, Meets, met-words}
 use Rattle.sound.specs.Answer.{Answered}
-use Rattle.sound.specs.Part.{Agrees, Filled, Part, Took, Visited, filled, found-of, held, over}
+use Rattle.sound.specs.Part.{Agrees, Filled, Part, Walked, Visited, filled, found-of, held, over}
 use Rattle.sound.specs.declared.visit.Found.{Found}
 use Rattle.sound.specs.declared.visit.Seen.{Seen}
 use Rattle.sound.specs.declared.visit.Seen.the-variants.{Sound as sound, Broken as unsound}
@@ -63,7 +63,8 @@ part-top {w} t p = ap (node-at w) (sym (p .at)) ∙ holds-top w t (p .holds)
 
 module _ {w met : List ℕ} {n total least levels : ℕ} where
   -- every tree is ruled out
-  refused : {met′ : List ℕ} → ((t : Tree) → Part w n total least levels t → Fresh met (numbers t) → ⊥) → Visited w met met′ n total least levels unsound
+  refused : {met′ : List ℕ} → ((t : Tree) → Part w n total least levels t → Fresh met (numbers t) → ⊥)
+      → Visited w met met′ n total least levels unsound
   refused out = record { yes = λ f e. unseen e refl; no = λ t p f. absurd (out t p f) }
 
   -- the node was met before
@@ -80,17 +81,19 @@ module _ {w met : List ℕ} {n total least levels : ℕ} where
 -- ---- a leaf was read
 
 -- what is found of a leaf is what is found of the tree that it is
-leaf-found : (x : Leaf) (total m : ℕ) (xs : List Bool) → length xs ≤ 128 → x ≡ leaf-of xs → total ≡ length xs → filled x total ≡ found-of (Tree.leaf m xs)
+leaf-found : (x : Leaf) (total m : ℕ) (xs : List Bool) → length xs ≤ 128 → x ≡ leaf-of xs → total ≡ length xs
+    → filled x total ≡ found-of (Tree.leaf m xs)
 unfolding filled found-of height marks numbers
 leaf-found x total m xs h e l =
     let same : held x total ≡ xs = rw (e, l) (held-of xs h) in
     λ i. record { height = zero; ones = count true (same i); nodes = 1 }
 
-module _ {w met met₁ : List ℕ} {n total least levels : ℕ} (x : Leaf) (read : node-at w n ≡ leaf x) (f₁ : Fresh met (n ∷ [])) (m₁ : Marked met met₁ (n ∷ [])) where
+module _ {w met met₁ : List ℕ} {n total least levels : ℕ} (x : Leaf) (read : node-at w n ≡ leaf x) (f₁ : Fresh met (n ∷ []))
+    (m₁ : Marked met met₁ (n ∷ [])) where
   -- a leaf that is filled makes a tree, and a tree that stands there is that leaf
-  leaf-took : (f : Found) → Filled x total least → f ≡ filled x total → Took w met met₁ n total least levels f (Tree.leaf n (held x total))
+  leaf-walked : (f : Found) → Filled x total least → f ≡ filled x total → Walked w met met₁ n total least levels f (Tree.leaf n (held x total))
   unfolding top size height numbers filled found-of marks
-  leaf-took f h e =
+  leaf-walked f h e =
       let long : length (held x total) ≡ total = held-length x total (omega (arith, h .most)) in
       record {
         part = record {
@@ -125,7 +128,7 @@ module _ {w met met₁ : List ℕ} {n total least levels : ℕ} (x : Leaf) (read
   pub visited-leaf : {r : Seen} → Answered (Filled x total least) (filled x total) r → Visited w met met₁ n total least levels r
   visited-leaf {r} a =
       record {
-        yes = λ f e. let s = a .yes f e in (Tree.leaf n (held x total), leaf-took f (s .0) (s .1));
+        yes = λ f e. let s = a .yes f e in (Tree.leaf n (held x total), leaf-walked f (s .0) (s .1));
         no = λ t p _. leaf-seen r a t p;
       }
 
@@ -141,7 +144,8 @@ record Forked (w : List ℕ) (n total least levels : ℕ) (f : Fork) (m : ℕ) (
   agrees : Agrees f (found-of l) (found-of r)
 
 -- what is fresh after the node itself is met
-below-fresh : {met met₁ : List ℕ} {n : ℕ} (m : ℕ) (l r : Tree) → m ≡ n → Marked met met₁ (n ∷ []) → Fresh met (numbers (Tree.fork m l r)) → Fresh met₁ (numbers l ++ numbers r)
+below-fresh : {met met₁ : List ℕ} {n : ℕ} (m : ℕ) (l r : Tree) → m ≡ n → Marked met met₁ (n ∷ []) → Fresh met (numbers (Tree.fork m l r))
+    → Fresh met₁ (numbers l ++ numbers r)
 unfolding numbers
 below-fresh m l r e k h = fresh-second (m ∷ []) (numbers l ++ numbers r) h (rw e k)
 
@@ -150,7 +154,8 @@ joined-found : (n : ℕ) (l r : Tree) → over (found-of l) (found-of r) ≡ fou
 unfolding over found-of height marks numbers
 joined-found n l r =
     let high : max (height l) (height r) + 1 ≡ suc (max (height l) (height r)) = omega arith in
-    let nodes : length (numbers l) + length (numbers r) + 1 ≡ suc (length (numbers l ++ numbers r)) = omega (arith, length-append (numbers l) (numbers r)) in
+    let nodes : length (numbers l) + length (numbers r) + 1 ≡ suc (length (numbers l ++ numbers r)) =
+    omega (arith, length-append (numbers l) (numbers r)) in
     λ i. record { height = high i; ones = sym (count-append true (marks l) (marks r)) i; nodes = nodes i }
 
 joined-marked : {met met₁ met₂ met₃ : List ℕ} {n : ℕ} (m : ℕ) (l r : Tree) → m ≡ n → Marked met met₁ (n ∷ []) → Marked met₁ met₂ (numbers l)
@@ -160,7 +165,7 @@ joined-marked m l r e a b c = marked-join (m ∷ []) (numbers l ++ numbers r) (r
 
 -- what was found of two children fits a word
 took-room : {w met₁ met₂ met₃ : List ℕ} {i j x y k least low : ℕ} {a b : Found} (l r : Tree)
-    → Took w met₁ met₂ i x k low a l → Took w met₂ met₃ j y least low b r → length met₁ ≡ met-words → low ≤ deepest → x + y < 2 ^ 64
+    → Walked w met₁ met₂ i x k low a l → Walked w met₂ met₃ j y least low b r → length met₁ ≡ met-words → low ≤ deepest → x + y < 2 ^ 64
     → (a .height ≤ deepest) × (b .height ≤ deepest) × (a .ones + b .ones < 2 ^ 64) × (a .nodes + b .nodes + 1 < 2 ^ 64)
 unfolding found-of
 took-room {met₁} l r p q long low fits =
@@ -168,17 +173,27 @@ took-room {met₁} l r p q long low fits =
     let most : length (numbers l ++ numbers r) ≤ 64 * length met₁ = few (64 * length met₁) (numbers l ++ numbers r) (both .distinct) (both .room) in (
       omega (arith, ap (λ (x : Found). x .height) (p .found), p .part .deep),
       omega (arith, ap (λ (x : Found). x .height) (q .found), q .part .deep),
-      omega (arith, ap (λ (x : Found). x .ones) (p .found), ap (λ (x : Found). x .ones) (q .found), count-size l, count-size r, p .part .counts, q .part .counts),
+      omega (
+        arith,
+        ap (λ (x : Found). x .ones) (p .found),
+        ap (λ (x : Found). x .ones)
+            (q .found),
+        count-size l,
+        count-size r,
+        p .part .counts,
+        q .part .counts,
+      ),
       omega (arith, ap (λ (x : Found). x .nodes) (p .found), ap (λ (x : Found). x .nodes) (q .found), length-append (numbers l) (numbers r)),
     )
 
 module _ {w : List ℕ} {n total least levels : ℕ} (f : Fork) (read : node-at w n ≡ fork f) {met met₁ met₂ met₃ : List ℕ}
     (f₁ : Fresh met (n ∷ [])) (m₁ : Marked met met₁ (n ∷ [])) {a b g : Found} (l r : Tree)
-    (p : Took w met₁ met₂ (f .left) (f .«left_total») leaf-least (levels - 1) a l) (q : Took w met₂ met₃ (f .right) (total - f .«left_total») least (levels - 1) b r) where
+    (p : Walked w met₁ met₂ (f .left) (f .«left_total») leaf-least (levels - 1) a l)
+    (q : Walked w met₂ met₃ (f .right) (total - f .«left_total») least (levels - 1) b r) where
   -- two subtrees make one
-  took-join : Agrees f a b → g ≡ over a b → 1 ≤ levels → f .«left_total» ≤ total → Took w met met₃ n total least levels g (Tree.fork n l r)
+  walked-join : Agrees f a b → g ≡ over a b → 1 ≤ levels → f .«left_total» ≤ total → Walked w met met₃ n total least levels g (Tree.fork n l r)
   unfolding top size height numbers fork-of found-of
-  took-join s e level within =
+  walked-join s e level within =
       let high : a .height ≡ height l = ap (λ (x : Found). x .height) (p .found) in
       let tall : b .height ≡ height r = ap (λ (x : Found). x .height) (q .found) in
       let ones : f .«left_ones» ≡ count true (marks l) = s .ones ∙ ap (λ (x : Found). x .ones) (p .found) in
@@ -239,7 +254,8 @@ module _ {w : List ℕ} {n total least levels : ℕ} (f : Fork) (read : node-at 
         };
       }
 
-  by-forked : (P : Tree → Type 0) (t : Tree) → Part w n total least levels t → ((m : ℕ) (l r : Tree) → Forked w n total least levels f m l r → P (Tree.fork m l r)) → P t
+  by-forked : (P : Tree → Type 0) (t : Tree) → Part w n total least levels t
+      → ((m : ℕ) (l r : Tree) → Forked w n total least levels f m l r → P (Tree.fork m l r)) → P t
   by-forked P (Tree.leaf m xs) p q =
       let same : fork f ≡ leaf (leaf-of xs) = sym read ∙ part-top (Tree.leaf m xs) p in
       let z : _≡_ {A = ℕ} 0 1 = cc in
@@ -265,34 +281,36 @@ module _ {w : List ℕ} {n total least levels : ℕ} (f : Fork) (read : node-at 
         refused (λ t p g. by-forked (λ (u : Tree). Fresh met (numbers u) → ⊥) t p (λ m l r h k. unseen (left-seen m l r h k .0) e) g)
 
     module _ {met₃ : List ℕ} {right : Seen} (u : Visited w met₂ met₃ (f .right) (total - f .«left_total») least (levels - 1) right) where
-      right-seen : (m : ℕ) (l r : Tree) → Forked w n total least levels f m l r → Fresh met (numbers (Tree.fork m l r))
+      correct-seen : (m : ℕ) (l r : Tree) → Forked w n total least levels f m l r → Fresh met (numbers (Tree.fork m l r))
           → (right ≡ sound (found-of r)) × Marked met₂ met₃ (numbers r)
-      right-seen m l r h g =
+      correct-seen m l r h g =
           u .no r (h .right) (fresh-second (numbers l) (numbers r) (below-fresh m l r (h .same) m₁ g) (left-seen m l r h g .1))
 
       -- no right child
       pub visited-right : {met′ : List ℕ} → right ≡ unsound → Visited w met met′ n total least levels unsound
       visited-right e =
-          refused (λ t p g. by-forked (λ (u : Tree). Fresh met (numbers u) → ⊥) t p (λ m l r h k. unseen (right-seen m l r h k .0) e) g)
+          refused (λ t p g. by-forked (λ (u : Tree). Fresh met (numbers u) → ⊥) t p (λ m l r h k. unseen (correct-seen m l r h k .0) e) g)
 
       -- both children, and what the fork says of them
       module _ (a b : Found) (e : left ≡ sound a) (d : right ≡ sound b) where
         pub children-room : length met ≡ met-words → levels ≤ deepest → f .«left_total» ≤ total → total < 2 ^ 64
             → (a .height ≤ deepest) × (b .height ≤ deepest) × (a .ones + b .ones < 2 ^ 64) × (a .nodes + b .nodes + 1 < 2 ^ 64)
-        children-room long low within fits = took-room (v .yes a e .0) (u .yes b d .0) (v .yes a e .1) (u .yes b d .1) (m₁ .size ∙ long) (omega arith) (omega arith)
+        children-room long low within fits =
+            took-room (v .yes a e .0) (u .yes b d .0) (v .yes a e .1) (u .yes b d .1) (m₁ .size ∙ long) (omega arith) (omega arith)
 
-        pub visited-fork : {r : Seen} → Answered (Agrees f a b) (over a b) r → 1 ≤ levels → f .«left_total» ≤ total → Visited w met met₃ n total least levels r
+        pub visited-fork : {r : Seen} → Answered (Agrees f a b) (over a b) r → 1 ≤ levels → f .«left_total» ≤ total
+            → Visited w met met₃ n total least levels r
         visited-fork {r} c level within =
             record {
               yes = λ g h.
                   let l = v .yes a e in
                   let k = u .yes b d in
                   let s = c .yes g h in
-                  (Tree.fork n (l .0) (k .0), took-join f read f₁ m₁ (l .0) (k .0) (l .1) (k .1) (s .0) (s .1) level within);
+                  (Tree.fork n (l .0) (k .0), walked-join f read f₁ m₁ (l .0) (k .0) (l .1) (k .1) (s .0) (s .1) level within);
               no = λ t p g. by-forked (λ (t : Tree). Fresh met (numbers t) → (r ≡ sound (found-of t)) × Marked met met₃ (numbers t)) t p
                   (λ m l k h g.
                   let x = left-seen m l k h g in
-                  let y = right-seen m l k h g in
+                  let y = correct-seen m l k h g in
                   let p : found-of l ≡ a = same-found (x .0) e in
                   let q : found-of k ≡ b = same-found (y .0) d in
                   let agree : Agrees f a b = rw (← p, ← q) (h .agrees) in

@@ -45,7 +45,8 @@ without n (k ∷ ks) d (List·Memᴰ·tail h) =
     record {
       less = k ∷ rest .less;
       same = λ w. omega (arith, rest .same w);
-      member = λ m l. ⊎-elim (λ (e : m ≡ k). List·Memᴰ·head e) (λ (l′ : List·Memᴰ m (rest .less)). List·Memᴰ·tail (rest .member m l′)) (List·Memᴰ·cases-cons l);
+      member = λ m l. ⊎-elim (λ (e : m ≡ k). List·Memᴰ·head e) (λ (l′ : List·Memᴰ m (rest .less)). List·Memᴰ·tail (rest .member m l′))
+          (List·Memᴰ·cases-cons l);
       distinct = (λ l. d .0 (rest .member k l), rest .distinct);
       out = λ l. ⊎-elim (λ (e : n ≡ k). d .0 (Memᴰ·cast (sym e) h)) (rest .out) (List·Memᴰ·cases-cons l);
     }
@@ -56,7 +57,8 @@ numbers-last : (w : ℕ → ℕ) (n : ℕ) → weigh w (numbers-from 0 (suc n)) 
 unfolding weigh numbers-from
 numbers-last w n =
     let e : 0 + n ≡ n = omega arith in
-    ap (λ (m : ℕ). weigh w (numbers-from 0 m)) (sym (add-one n)) ∙ numbers-more w 0 n 1 ∙ ap (λ (m : ℕ). weigh w (numbers-from 0 n) + (w m + 0)) e ∙ omega arith
+    ap (λ (m : ℕ). weigh w (numbers-from 0 m)) (sym (add-one n)) ∙ numbers-more w 0 n 1 ∙ ap (λ (m : ℕ). weigh w (numbers-from 0 n) + (w m + 0)) e
+    ∙ omega arith
 
 abbrev Completed : ℕ → List ℕ → Type 0
 Completed n ks = (rest : List ℕ) × ((w : ℕ → ℕ) → weigh w (numbers-from 0 n) ≡ weigh w ks + weigh w rest)
@@ -82,13 +84,15 @@ completed (suc n) ks d low =
 
 made-up : (n : ℕ) (ks : List ℕ) (c : Completed n ks) → n ≡ length ks + length (c .0)
 made-up n ks c =
-    sym (numbers-from-length 0 n) ∙ rearranged-length (numbers-from 0 n) (ks ++ c .0) (λ w. c .1 w ∙ sym (weigh-append w ks (c .0))) ∙ length-append ks (c .0)
+    sym (numbers-from-length 0 n) ∙ rearranged-length (numbers-from 0 n) (ks ++ c .0) (λ w. c .1 w ∙ sym (weigh-append w ks (c .0)))
+    ∙ length-append ks (c .0)
 
 -- there are at most n
 pub few : (n : ℕ) (ks : List ℕ) → Distinct ks → ((k : ℕ) → List·Memᴰ k ks → k < n) → length ks ≤ n
 few n ks d low = omega (arith, made-up n ks (completed n ks d low))
 
-rest-none : (n : ℕ) (ks rest : List ℕ) → length rest ≡ 0 → ((w : ℕ → ℕ) → weigh w (numbers-from 0 n) ≡ weigh w ks + weigh w rest) → Rearranged (numbers-from 0 n) ks
+rest-none : (n : ℕ) (ks rest : List ℕ) → length rest ≡ 0 → ((w : ℕ → ℕ) → weigh w (numbers-from 0 n) ≡ weigh w ks + weigh w rest)
+    → Rearranged (numbers-from 0 n) ks
 unfolding weigh
 rest-none n ks [] z same w = omega (arith, same w)
 rest-none n ks (k ∷ rest) z same w = absurd (omega arith)

@@ -4,6 +4,7 @@ use Prim.Native.Nat.{ℕ}
 use mathlib.Core.Path.{_≡_, refl, sym}
 use mathlib.Core.Bool.{Bool, true, false}
 use mathlib.Core.List.{List}
+use Rattle.model.specs.Contract.{Pinned}
 use Rattle.pool.specs.declared.chain.Chain.{Chain}
 use Rattle.sound.specs.Judged.{Judged}
 use Rattle.sound.proofs.judge.sound.Reads as sound
@@ -14,5 +15,5 @@ judged-one true false p q = let h = p .yes refl in sym (q .no (h .0) (h .1))
 judged-one false true p q = let h = q .yes refl in p .no (h .0) (h .1)
 judged-one false false p q = refl
 
-pub sound-pinned : (κs : _) (a : _) (r r′ : _) (w w′ : _) → sound.Post κs a r w → sound.Post κs a r′ w′ → r ≡ r′
+pub sound-pinned : Pinned sound.Post
 sound-pinned κs a r r′ w w′ p q = judged-one r r′ p q

@@ -22,8 +22,8 @@ use Rattle.pool.specs.Layout.{Chained, Holds, first-of, fork-of}
 use Rattle.pool.specs.Node.{node-at, node-words, nodes-in}
 use Rattle.pool.specs.declared.chain.Chain.{Chain}
 use Rattle.pool.proofs.Cells.{leaf-says, fork-says, free-says}
-use Rattle.sound.specs.Answer.{Says}
-use Rattle.sound.specs.Judged.{Judged, Right}
+use Rattle.model.specs.Says.{Says}
+use Rattle.sound.specs.Judged.{Judged, Correct}
 use Rattle.sound.specs.Links.{Linked}
 use Rattle.sound.specs.Met.{Fresh, Marked, met-at, met-words}
 use Rattle.sound.specs.Part.{Part, Visited, found-of, least-of}
@@ -50,7 +50,8 @@ unmet n k = rw (met-at, zeros n (k / 64), zero-div (2 ^ (k % 64)))
 tree-below : (w : List ℕ) (t : Tree) → Holds w t → (k : ℕ) → List·Memᴰ k (numbers t) → k < nodes-in w
 unfolding numbers
 tree-below w (Tree.leaf n xs) h k m =
-    ⊎-elim (λ (e : k ≡ n). let low = leaf-says w n (leaf-of xs) h in omega (arith, low .0)) (λ l. absurd (List·Memᴰ·not-nil l)) (List·Memᴰ·cases-cons m)
+    ⊎-elim (λ (e : k ≡ n). let low = leaf-says w n (leaf-of xs) h in omega (arith, low .0)) (λ l. absurd (List·Memᴰ·not-nil l))
+    (List·Memᴰ·cases-cons m)
 tree-below w (Tree.fork n l r) h k m =
     ⊎-elim
     (λ (e : k ≡ n). let low = fork-says w n (fork-of l r) (h .0) in omega (arith, low .0))
@@ -60,7 +61,8 @@ tree-below w (Tree.fork n l r) h k m =
 chain-below : (w : List ℕ) (end : ℕ) (ns : List ℕ) → Chained w end ns → (k : ℕ) → List·Memᴰ k ns → k < nodes-in w
 chain-below w end [] h k m = absurd (List·Memᴰ·not-nil m)
 chain-below w end (n ∷ ns) h k m =
-    ⊎-elim (λ (e : k ≡ n). let low = free-says w n (first-of end ns) (h .0) in omega (arith, low .0)) (chain-below w end ns (h .1) k) (List·Memᴰ·cases-cons m)
+    ⊎-elim (λ (e : k ≡ n). let low = free-says w n (first-of end ns) (h .0) in omega (arith, low .0)) (chain-below w end ns (h .1) k)
+    (List·Memᴰ·cases-cons m)
 
 -- ---- how few marks the last leaf may hold
 
@@ -80,7 +82,8 @@ abbrev pub unmarked : List ℕ
 unmarked = replicate met-words 0
 
 -- a tree that was found has no more nodes than there are
-pub seen-few : {w met met′ : List ℕ} {n total least levels : ℕ} {r : Seen} → Visited w met met′ n total least levels r → (f : Found) → r ≡ sound f → f .nodes ≤ nodes-in w
+pub seen-few : {w met met′ : List ℕ} {n total least levels : ℕ} {r : Seen} → Visited w met met′ n total least levels r → (f : Found) → r ≡ sound f
+    → f .nodes ≤ nodes-in w
 unfolding found-of
 seen-few {w} v f e =
     let t = v .yes f e .0 in
@@ -88,8 +91,8 @@ seen-few {w} v f e =
     omega (arith, ap (λ (x : Found). x .nodes) (s .found), few (nodes-in w) (numbers t) (s .fresh .distinct) (tree-below w t (s .part .holds)))
 
 module _ {w : List ℕ} {root total : ℕ} {chain : Chain} (most : nodes-in w ≤ most-nodes) where
-  right-part : (p : Pool) → Right w root total chain p → Part w root total (least-of (node-at w root)) levels (p .tree)
-  right-part p h =
+  correct-part : (p : Pool) → Correct w root total chain p → Part w root total (least-of (node-at w root)) levels (p .tree)
+  correct-part p h =
       record {
         at = h .rooted;
         holds = h .laid .tree;
@@ -99,43 +102,54 @@ module _ {w : List ℕ} {root total : ℕ} {chain : Chain} (most : nodes-in w �
         deep = depth (nodes-in w) p most (h .sound);
       }
 
-  right-fresh : (p : Pool) → Right w root total chain p → Fresh unmarked (numbers (p .tree) ++ p .free)
+  correct-fresh : (p : Pool) → Correct w root total chain p → Fresh unmarked (numbers (p .tree) ++ p .free)
   unfolding all-numbers
-  right-fresh p h =
+  correct-fresh p h =
       let all = numbers (p .tree) ++ p .free in
       record {
         distinct = rearranged-distinct (numbers-from 0 (nodes-in w)) all (h .sound .each) (numbers-from-distinct 0 (nodes-in w));
-        room = λ k m. omega (arith, numbers-from-bounds k 0 (nodes-in w) (rearranged-member k all (numbers-from 0 (nodes-in w)) (rearranged-sym _ all (h .sound .each)) m));
+        room = λ k m. omega (
+          arith,
+          numbers-from-bounds k 0 (nodes-in w)
+              (rearranged-member k all (numbers-from 0 (nodes-in w)) (rearranged-sym _ all (h .sound .each)) m),
+        );
         unmet = λ k _. unmet met-words k;
       }
 
-  right-amount : (p : Pool) → Right w root total chain p → length (numbers (p .tree)) + chain .count ≡ nodes-in w
+  correct-amount : (p : Pool) → Correct w root total chain p → length (numbers (p .tree)) + chain .count ≡ nodes-in w
   unfolding all-numbers
-  right-amount p h =
+  correct-amount p h =
       let all = numbers (p .tree) ++ p .free in
-      omega (arith, rearranged-length (numbers-from 0 (nodes-in w)) all (h .sound .each), numbers-from-length 0 (nodes-in w), length-append (numbers (p .tree)) (p .free), h .amount)
+      omega (
+        arith,
+        rearranged-length (numbers-from 0 (nodes-in w)) all (h .sound .each),
+        numbers-from-length 0 (nodes-in w),
+        length-append
+            (numbers (p .tree)) (p .free),
+        h .amount,
+      )
 
   -- ---- after the visit
 
   module _ {met : List ℕ} {r : Seen} (v : Visited w unmarked met root total (least-of (node-at w root)) levels r) where
-    right-seen : (p : Pool) → Right w root total chain p → (r ≡ sound (found-of (p .tree))) × Marked unmarked met (numbers (p .tree))
-    right-seen p h = v .no (p .tree) (right-part p h) (fresh-first (numbers (p .tree)) (p .free) (right-fresh p h))
+    correct-seen : (p : Pool) → Correct w root total chain p → (r ≡ sound (found-of (p .tree))) × Marked unmarked met (numbers (p .tree))
+    correct-seen p h = v .no (p .tree) (correct-part p h) (fresh-first (numbers (p .tree)) (p .free) (correct-fresh p h))
 
     -- no tree was found
     pub judged-none : r ≡ unsound → Judged w root total chain false
-    judged-none e = record { yes = λ t. never t refl; no = λ p h. unseen (right-seen p h .0) e }
+    judged-none e = record { yes = λ t. never t refl; no = λ p h. unseen (correct-seen p h .0) e }
 
     module _ (f : Found) (e : r ≡ sound f) where
-      right-count : (p : Pool) → Right w root total chain p → nodes-in w - f .nodes ≡ chain .count
+      correct-count : (p : Pool) → Correct w root total chain p → nodes-in w - f .nodes ≡ chain .count
       unfolding found-of
-      right-count p h = omega (arith, ap (λ (x : Found). x .nodes) (same-found e (right-seen p h .0)), right-amount p h)
+      correct-count p h = omega (arith, ap (λ (x : Found). x .nodes) (same-found e (correct-seen p h .0)), correct-amount p h)
 
       -- the chain has not as many nodes as are left
       pub judged-count : (nodes-in w - f .nodes ≡ chain .count → ⊥) → Judged w root total chain false
-      judged-count ne = record { yes = λ t. never t refl; no = λ p h. absurd (ne (right-count p h)) }
+      judged-count ne = record { yes = λ t. never t refl; no = λ p h. absurd (ne (correct-count p h)) }
 
       pool-right : length w ≡ nodes-in w * node-words → nodes-in w - f .nodes ≡ chain .count → Linked w (nodes-in w) met (chain .first) (chain .count)
-          → (p : Pool) × Right w root total chain p
+          → (p : Pool) × Correct w root total chain p
       unfolding found-of all-numbers
       pool-right words left l =
           let t = v .yes f e .0 in
@@ -174,7 +188,7 @@ module _ {w : List ℕ} {root total : ℕ} {chain : Chain} (most : nodes-in w �
                 chained = h .laid .chain;
                 begins = h .begins;
                 counts = h .amount;
-                fresh = fresh-second (numbers (p .tree)) (p .free) (right-fresh p h) (right-seen p h .1);
+                fresh = fresh-second (numbers (p .tree)) (p .free) (correct-fresh p h) (correct-seen p h .1);
               },
             );
           }

@@ -13,7 +13,7 @@ use Rattle.pool.specs.declared.chain.Chain.{Chain}
 
 -- a sound pool stands in these words, as many nodes as there is room for, with this root, this many marks and this
 -- chain
-pub record Right (w : List ℕ) (root total : ℕ) (chain : Chain) (p : Pool) : Type 0 where
+pub record Correct (w : List ℕ) (root total : ℕ) (chain : Chain) (p : Pool) : Type 0 where
   pub laid : Laid w (nodes-in w) p
   pub sound : Sound (nodes-in w) p
   pub rooted : top (p .tree) ≡ root
@@ -23,5 +23,5 @@ pub record Right (w : List ℕ) (root total : ℕ) (chain : Chain) (p : Pool) : 
 
 -- true exactly where there is such a pool
 pub record Judged (w : List ℕ) (root total : ℕ) (chain : Chain) (r : Bool) : Type 0 where
-  pub yes : r ≡ true → (p : Pool) × Right w root total chain p
-  pub no : (p : Pool) → Right w root total chain p → r ≡ true
+  pub yes : r ≡ true → (p : Pool) × Correct w root total chain p
+  pub no : (p : Pool) → Correct w root total chain p → r ≡ true

@@ -78,7 +78,7 @@ pub record Part (w : List ℕ) (n total least levels : ℕ) (t : Tree) : Type 0 
   pub deep : height t ≤ levels
 
 -- what a visit has found, and met on the way
-pub record Took (w met met′ : List ℕ) (n total least levels : ℕ) (f : Found) (t : Tree) : Type 0 where
+pub record Walked (w met met′ : List ℕ) (n total least levels : ℕ) (f : Found) (t : Tree) : Type 0 where
   pub part : Part w n total least levels t
   pub fresh : Fresh met (numbers t)
   pub marked : Marked met met′ (numbers t)
@@ -86,5 +86,6 @@ pub record Took (w met met′ : List ℕ) (n total least levels : ℕ) (f : Foun
 
 -- a tree is found where one stands whose nodes are all fresh, and nowhere else
 pub record Visited (w met met′ : List ℕ) (n total least levels : ℕ) (r : Seen) : Type 0 where
-  pub yes : (f : Found) → r ≡ sound f → (t : Tree) × Took w met met′ n total least levels f t
-  pub no : (t : Tree) → Part w n total least levels t → Fresh met (numbers t) → (r ≡ sound (found-of t)) × Marked met met′ (numbers t)
+  pub yes : (f : Found) → r ≡ sound f → (t : Tree) × Walked w met met′ n total least levels f t
+  pub no : (t : Tree) → Part w n total least levels t → Fresh met (numbers t)
+      → (r ≡ sound (found-of t)) × Marked met met′ (numbers t)

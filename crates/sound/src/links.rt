@@ -5,12 +5,14 @@ use pool::Node;
 use pool::node_at;
 use pool::node_count;
 ghost use Rattle.pool.specs.Node.{nodes-in};
-ghost use Rattle.sound.specs.Answer.{Says};
+ghost use Rattle.model.specs.Says.{Says};
 ghost use Rattle.sound.specs.Links.{Linked};
 
 // Whether the chain has so many free nodes, none of them met before, and then ends.
 pub fn chain_sound(nodes: &[u64], met: &mut [u64], chain: Chain) -> bool
-    ensures { λ r. ⌜ Says (Linked (now (nodes .entry)) (nodes-in (now (nodes .entry))) (now (met .entry)) (chain .first) (chain .count)) r ⌝ }
+    ensures { λ r. ⌜ Says
+        (Linked (now (nodes .entry)) (nodes-in (now (nodes .entry))) (now (met .entry)) (chain .first)
+        (chain .count)) r ⌝ }
 {
     let mut n = chain.first;
     let mut left = chain.count;

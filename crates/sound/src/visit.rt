@@ -10,7 +10,8 @@ ghost use Prim.Native.Nat.{_+_, _<_, _≤_, _^_};
 ghost use lib.ListN.{length};
 ghost use Rattle.pool.specs.Node.{node-at};
 ghost use Rattle.model.specs.Limits.{levels as deepest};
-ghost use Rattle.sound.specs.Answer.{Answered, Says};
+ghost use Rattle.model.specs.Says.{Says};
+ghost use Rattle.sound.specs.Answer.{Answered};
 ghost use Rattle.sound.specs.Met.{met-words};
 ghost use Rattle.sound.specs.Part.{Agrees, Filled, Visited, even-balance, filled, higher, least-of, over};
 
@@ -85,7 +86,8 @@ fn balanced(balance: u64, left: u64, right: u64) -> bool
 
 // What a fork says, held against its two children.
 fn fork_seen(fork: Fork, left: Found, right: Found) -> Seen
-    requires { ⌜ (left .height ≤ deepest) × (right .height ≤ deepest) × (left .ones + right .ones < 2 ^ 64) × (left .nodes + right .nodes + 1 < 2 ^ 64) ⌝ }
+    requires { ⌜ (left .height ≤ deepest) × (right .height ≤ deepest) × (left .ones + right .ones < 2 ^ 64)
+        × (left .nodes + right .nodes + 1 < 2 ^ 64) ⌝ }
     ensures { λ r. ⌜ Answered (Agrees fork left right) (over left right) r ⌝ }
 {
     if fork.left_ones != left.ones {

@@ -1,7 +1,7 @@
 -- A call's reply is told by its answer.
 use mathlib.Core.Path.{_≡_, sym, ap, _∙_}
-use Rattle.serve.specs.Answer.{code, value}
-use Rattle.serve.specs.declared.answer.Answer.{Answer}
+use Rattle.order.specs.Answer.{code, value}
+use Rattle.order.specs.declared.answer.Answer.{Answer}
 use Rattle.spelunzone.specs.Reply.{Replies}
 use Rattle.spelunzone.specs.declared.Reply.{Reply}
 
@@ -10,6 +10,6 @@ pub one-reply : (P Q : Answer → Type 0) (r s : Reply) → ((a b : Answer) → 
 one-reply P Q r s one p q =
     let same : p .answer ≡ q .answer = one (p .answer) (q .answer) (p .allowed) (q .allowed) in
     λ i. record {
-      code = (p .says .code ∙ ap code same ∙ sym (q .says .code)) i;
-      value = (p .says .value ∙ ap value same ∙ sym (q .says .value)) i;
+      code = (p .carries .code ∙ ap code same ∙ sym (q .carries .code)) i;
+      value = (p .carries .value ∙ ap value same ∙ sym (q .carries .value)) i;
     }

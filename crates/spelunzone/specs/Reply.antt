@@ -1,11 +1,11 @@
--- What crosses to the host: the scope's number and value of the window's answer.
+-- What crosses to the host: the number and the value of the window's answer.
 use mathlib.Core.Path.{_≡_}
-use Rattle.serve.specs.Answer.{code, value}
-use Rattle.serve.specs.declared.answer.Answer.{Answer}
+use Rattle.order.specs.Answer.{code, value}
+use Rattle.order.specs.declared.answer.Answer.{Answer}
 use Rattle.spelunzone.specs.declared.Reply.{Reply}
 
 -- the reply is this answer
-pub record Says (a : Answer) (r : Reply) : Type 0 where
+pub record Carries (a : Answer) (r : Reply) : Type 0 where
   pub code : r .code ≡ code a
   pub value : r .value ≡ value a
 
@@ -13,4 +13,4 @@ pub record Says (a : Answer) (r : Reply) : Type 0 where
 pub record Replies (P : Answer → Type 0) (r : Reply) : Type 0 where
   pub answer : Answer
   pub allowed : P answer
-  pub says : Says answer r
+  pub carries : Carries answer r

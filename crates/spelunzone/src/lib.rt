@@ -1,10 +1,11 @@
 // The calls as a C host sees them: words cross as a pointer and a count, and the answer comes back as two words, its
 // number and its value.
 ghost use mathlib.Core.Path.{_≡_};
-ghost use Rattle.spelunzone.specs.Reply.{Replies, Says};
-ghost use Rattle.window.specs.Calls.{BuildsTo, Checked, Ran, Valued};
-use serve::Answer;
-use serve::told;
+ghost use Rattle.spelunzone.specs.Reply.{Replies, Carries};
+ghost use Rattle.run.specs.Runs.{Ran};
+ghost use Rattle.window.specs.Calls.{BuildsTo, Checked, Valued};
+use order::Answer;
+use order::as_words;
 
 #[repr(C)]
 pub struct Reply {
@@ -12,11 +13,11 @@ pub struct Reply {
     pub value: u64,
 }
 
-// An answer as the number and the value of the scope.
+// An answer as its number and its value.
 fn handed(answer: Answer) -> Reply
-    ensures { λ r. ⌜ Says answer r ⌝ }
+    ensures { λ r. ⌜ Carries answer r ⌝ }
 {
-    let words = told(answer);
+    let words = as_words(answer);
     Reply {
         code: words.code,
         value: words.value,
@@ -46,7 +47,9 @@ pub extern "C" fn sz_values(pool: &[u64], out: &mut [u64]) -> Reply
 
 #[no_mangle]
 pub extern "C" fn sz_run(pool: &mut [u64], orders: &[u64], out: &mut [u64]) -> Reply
-    ensures { λ r. ⌜ Replies (λ a. Ran (now (pool .entry)) (now (orders .entry)) (now (out .entry)) a (now (pool .exit)) (now (out .exit))) r ⌝ }
+    ensures { λ r. ⌜ Replies
+        (λ a. Ran (now (pool .entry)) (now (orders .entry)) (now (out .entry)) a (now (pool .exit))
+        (now (out .exit))) r ⌝ }
 {
-    handed(window::run(pool, orders, out))
+    handed(run::run(pool, orders, out))
 }

@@ -8,13 +8,13 @@ use lib.ListN.{length, take, drop, length-append, drop-of-length-le}
 use lib.Seq.{drop-cons}
 use Rattle.model.specs.Edit.{put-before, drop-first, first-mark}
 use Rattle.model.specs.Marks.{access, count, ones, remove, wanted}
-use Rattle.model.specs.Tree.{Tree, leaf, fork, marks, size, last-leaf}
+use Rattle.model.specs.Tree.{Tree, marks, size}
 use Rattle.model.proofs.Content.{size-marks, put-before-marks, drop-first-marks}
 use Rattle.model.proofs.Counting.{count-append, count-both}
 use Rattle.bits.specs.Leaf.{bits-of, leaf-of}
 use Rattle.bits.specs.declared.leaf.Leaf.{Leaf}
 use Rattle.bits.proofs.Held.{join-held, remove-held, access-held}
-use Rattle.spine.specs.Edges.{bit-of}
+use Rattle.model.specs.Word.{digit}
 
 -- ---- totals
 
@@ -26,8 +26,8 @@ pub put-before-count : (ys : List Bool) (t : Tree) → count true (marks t) + co
 put-before-count ys t = omega (arith, ap (count true) (put-before-marks ys t), count-append true ys (marks t))
 
 -- a lone mark counts for itself
-pub count-one : (b : Bool) → count true (b ∷ []) ≡ bit-of b
-unfolding count wanted ones
+pub count-one : (b : Bool) → count true (b ∷ []) ≡ digit b
+unfolding count wanted ones digit
 count-one true = refl
 count-one false = refl
 
@@ -38,7 +38,7 @@ module _ (t : Tree) (b : Bool) (e : first-mark t ≡ b ∷ []) where
   pub drop-first-size : size t ≡ suc (size (drop-first t))
   drop-first-size = omega (arith, size-marks t, size-marks (drop-first t), ap length parts, length-append (b ∷ []) (marks (drop-first t)))
 
-  pub drop-first-count : count true (marks t) ≡ bit-of b + count true (marks (drop-first t))
+  pub drop-first-count : count true (marks t) ≡ digit b + count true (marks (drop-first t))
   drop-first-count = omega (arith, ap (count true) parts, count-append true (b ∷ []) (marks (drop-first t)), count-one b)
 
 -- no more strikes than marks
@@ -47,12 +47,6 @@ count-most xs = omega (arith, count-both xs)
 
 pub strikes-most : (t : Tree) → count true (marks t) ≤ size t
 strikes-most t = omega (arith, count-most (marks t), size-marks t)
-
--- the last leaf is a part of its tree
-pub last-leaf-within : (t : Tree) → length (last-leaf t) ≤ size t
-unfolding last-leaf size
-last-leaf-within (leaf n xs) = omega arith
-last-leaf-within (fork n l r) = omega (arith, last-leaf-within r)
 
 -- ---- leaves
 
@@ -92,4 +86,6 @@ module _ {a : Leaf} (xs : List Bool) (p : a ≡ leaf-of xs) (h : length xs ≤ 1
 
   pub last-marked : {b : Bool} → b ≡ access (length xs - 1) (bits-of a) → drop (length xs - 1) xs ≡ b ∷ []
   unfolding access
-  last-marked s = drop-cons xs (length xs - 1) false (omega arith) ∙ ap₂ {C = List Bool} (λ (x : Bool) (ys : List Bool). x ∷ ys) (sym (marked (length xs - 1) xs p h s)) past
+  last-marked s =
+      drop-cons xs (length xs - 1) false (omega arith)
+      ∙ ap₂ {C = List Bool} (λ (x : Bool) (ys : List Bool). x ∷ ys) (sym (marked (length xs - 1) xs p h s)) past

@@ -27,21 +27,23 @@ use Rattle.spine.proofs.edges.drop_last.Reads as last
 use Rattle.spine.proofs.edges.drop_last.Kinds as last-kinds
 
 pub first-leaf-size-pinned : (κs : _) (a : Dens {n = 1} κs first-leaf-size-kinds.ps) (r r′ : _) (w w′ : _) (t : Tree)
-    → Rooted (now (a .0)) (a .1 .0) (a .1 .1 .1 .0) t → size t ≡ a .1 .1 .0 → first-leaf-size.Post κs a r w → first-leaf-size.Post κs a r′ w′ → r ≡ r′
+    → Rooted (now (a .0)) (a .1 .0) (a .1 .1 .1 .0) t → size t ≡ a .1 .1 .0
+    → first-leaf-size.Post κs a r w → first-leaf-size.Post κs a r′ w′ → r ≡ r′
 first-leaf-size-pinned κs a r r′ w w′ t h e p q = p t h e ∙ sym (q t h e)
 
 pub last-leaf-size-pinned : (κs : _) (a : Dens {n = 1} κs last-leaf-size-kinds.ps) (r r′ : _) (w w′ : _) (t : Tree)
-    → Rooted (now (a .0)) (a .1 .0) (a .1 .1 .1 .0) t → size t ≡ a .1 .1 .0 → last-leaf-size.Post κs a r w → last-leaf-size.Post κs a r′ w′ → r ≡ r′
+    → Rooted (now (a .0)) (a .1 .0) (a .1 .1 .1 .0) t → size t ≡ a .1 .1 .0
+    → last-leaf-size.Post κs a r w → last-leaf-size.Post κs a r′ w′ → r ≡ r′
 last-leaf-size-pinned κs a r r′ w w′ t h e p q = p t h e ∙ sym (q t h e)
 
-pub put-before-pinned : (κs : _) (a : Dens {n = 1} κs before-kinds.ps) (r r′ : _) (w w′ : _) (n : ℕ) (t : Tree) (ys : List Bool) → Whole n (now (a .0))
-    → ToPutBefore (now (a .0)) (a .1 .0) (a .1 .1 .1 .1 .1 .0) (a .1 .1 .0) (a .1 .1 .1 .0) (a .1 .1 .1 .1 .0) t ys
+pub put-before-pinned : (κs : _) (a : Dens {n = 1} κs before-kinds.ps) (r r′ : _) (w w′ : _) (n : ℕ) (t : Tree) (ys : List Bool)
+    → Whole n (now (a .0)) → ToPutBefore (now (a .0)) (a .1 .0) (a .1 .1 .1 .1 .1 .0) (a .1 .1 .0) (a .1 .1 .1 .0) (a .1 .1 .1 .1 .0) t ys
     → before.Post κs a r w → before.Post κs a r′ w′ → now (w .0) ≡ now (w′ .0)
 put-before-pinned κs a r r′ w w′ n t ys whole h p q =
     edited-once n whole (sym (alike-numbers (put-before ys t) t (put-before-shape ys t))) (p t ys h) (q t ys h)
 
-pub put-after-pinned : (κs : _) (a : Dens {n = 1} κs after-kinds.ps) (r r′ : _) (w w′ : _) (n : ℕ) (t : Tree) (ys : List Bool) → Whole n (now (a .0))
-    → ToPutAfter (now (a .0)) (a .1 .0) (a .1 .1 .1 .1 .0) (a .1 .1 .0) (a .1 .1 .1 .0) t ys
+pub put-after-pinned : (κs : _) (a : Dens {n = 1} κs after-kinds.ps) (r r′ : _) (w w′ : _) (n : ℕ) (t : Tree) (ys : List Bool)
+    → Whole n (now (a .0)) → ToPutAfter (now (a .0)) (a .1 .0) (a .1 .1 .1 .1 .0) (a .1 .1 .0) (a .1 .1 .1 .0) t ys
     → after.Post κs a r w → after.Post κs a r′ w′ → now (w .0) ≡ now (w′ .0)
 put-after-pinned κs a r r′ w w′ n t ys whole h p q =
     edited-once n whole (sym (alike-numbers (put-after ys t) t (put-after-shape ys t))) (p t ys h) (q t ys h)
@@ -58,7 +60,8 @@ drop-first-pinned κs a r r′ w w′ n t whole h p q = (
 )
 
 pub drop-last-pinned : (κs : _) (a : Dens {n = 1} κs last-kinds.ps) (r r′ : _) (w w′ : _) (n : ℕ) (t : Tree) → Whole n (now (a .0))
-    → ToDropLast (now (a .0)) (a .1 .0) (a .1 .1 .1 .0) (a .1 .1 .0) t → last.Post κs a r w → last.Post κs a r′ w′ → (r ≡ r′) × (now (w .0) ≡ now (w′ .0))
+    → ToDropLast (now (a .0)) (a .1 .0) (a .1 .1 .1 .0) (a .1 .1 .0) t → last.Post κs a r w → last.Post κs a r′ w′
+    → (r ≡ r′) × (now (w .0) ≡ now (w′ .0))
 drop-last-pinned κs a r r′ w w′ n t whole h p q = (
   same-one (p t h .marked) (q t h .marked),
   edited-once n whole (sym (alike-numbers (drop-last t) t (drop-last-shape t))) (p t h .edited) (q t h .edited),

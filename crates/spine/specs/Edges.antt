@@ -12,15 +12,26 @@ use Rattle.bits.specs.Leaf.{leaf-of}
 use Rattle.bits.specs.declared.leaf.Leaf.{Leaf}
 use Rattle.pool.specs.Layout.{Rooted, Edited}
 use Rattle.pool.specs.declared.node.Fork.{Fork}
+use Rattle.spine.specs.declared.edges.LastLeaf.{LastLeaf}
 
--- a mark as a number: a strike is one
-abbrev pub bit-of : Bool → ℕ
-bit-of true = 1
-bit-of false = 0
+-- one of two, by whether it is the left one
+abbrev pub side : {A : Type 0} → Bool → A → A → A
+side true x y = x
+side false x y = y
 
 -- a fork, with other totals of its left child
 abbrev pub with-left : Fork → ℕ → ℕ → Fork
-with-left f total ones = record { left = f .left; right = f .right; «left_total» = total; «left_ones» = ones; balance = f .balance }
+with-left f total ones =
+    record { left = f .left; right = f .right; «left_total» = total; «left_ones» = ones; balance = f .balance }
+
+-- the number of the last leaf
+abbrev pub last-number : Tree → ℕ
+last-number (Tree.leaf n xs) = n
+last-number (Tree.fork n l r) = last-number r
+
+pub record IsLast (l : LastLeaf) (t : Tree) : Type 0 where
+  pub at : l .n ≡ last-number t
+  pub size-is : l .size ≡ length (last-leaf t)
 
 -- a tree that may be edited in place: no number stands twice in it
 pub record Editable (w : List ℕ) (n levels : ℕ) (t : Tree) : Type 0 where
@@ -29,7 +40,8 @@ pub record Editable (w : List ℕ) (n levels : ℕ) (t : Tree) : Type 0 where
 
 -- the marks ys, so many in a leaf and so many of them strikes, can be put before the first mark of t: its first leaf
 -- has room for them
-pub record ToPutBefore (w : List ℕ) (n levels : ℕ) (leaf : Leaf) (size ones : ℕ) (t : Tree) (ys : List Bool) : Type 0 where
+pub record ToPutBefore (w : List ℕ) (n levels : ℕ) (leaf : Leaf) (size ones : ℕ) (t : Tree) (ys : List Bool)
+    : Type 0 where
   pub tree : Editable w n levels t
   pub held : leaf ≡ leaf-of ys
   pub total : length ys ≡ size

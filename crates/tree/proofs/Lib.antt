@@ -1,4 +1,3 @@
 pub mod Down
-pub mod Output
 pub mod Pinned
 pub mod Questions

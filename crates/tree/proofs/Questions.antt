@@ -5,35 +5,32 @@ use native.Mathlib.Omega.{arith}
 use borrow.Author.Tests.{lt-ltb, le-ltb}
 use mathlib.Core.Path.{_≡_, refl, sym, ap, _∙_}
 use mathlib.Core.Bool.{Bool, true, false}
-use mathlib.Core.List.{List, _++_}
+use mathlib.Core.List.{List}
 use mathlib.Core.Option.{Option, none, some}
-use lib.ListN.{length, take, replicate, length-append, length-take}
+use lib.ListN.{length, take, replicate, length-take}
 use Rattle.model.specs.Edit.{leaf-at}
 use Rattle.model.specs.Marks.{access, count, further, ones, rank, select, wanted}
 use Rattle.model.specs.Tree as Tree
 use Rattle.model.specs.Tree.{Tree, marks, size}
-use Rattle.model.specs.Word.{bits, odd}
-use Rattle.model.proofs.Words.{bits-length}
+use Rattle.model.specs.Word.{odd}
 use Rattle.model.proofs.Cases.{by-test, by-ltb}
 use Rattle.model.proofs.Content.{size-marks}
 use Rattle.model.proofs.Counting.{count-append, count-both, further-zero, further-further, select-in-second, select-none, select-some, select-below, ones-le, wanted-length}
 use Rattle.model.proofs.Paths.{access-left, access-right, rank-left, rank-right, select-left, select-right, count-size}
 use Rattle.bits.specs.Leaf.{leaf-of, bits-of}
-use Rattle.bits.specs.Select.{placed}
+use Rattle.select.specs.Select.{placed}
 use Rattle.bits.specs.declared.leaf.Leaf.{Leaf}
-use Rattle.bits.specs.declared.select.Place.{Place}
-use Rattle.bits.specs.declared.select.Place.the-variants as Place
+use Rattle.select.specs.declared.select.Place.{Place}
+use Rattle.select.specs.declared.select.Place.the-variants as Place
 use Rattle.bits.proofs.Held.{held-bits, select-held}
-use Rattle.bits.proofs.TwoWords.{bit-low, bit-high}
+use Rattle.bits.proofs.TwoWords.{bit-low, bit-high, both-length}
 use Rattle.pool.specs.Layout.{fork-of}
-use Rattle.pool.specs.Node.{node-at}
 use Rattle.pool.specs.declared.node.Fork.{Fork}
-use Rattle.pool.specs.declared.node.Node.the-variants.{Fork as fork}
 use Rattle.tree.specs.Query.{Near, Spotted, found-at, found-of, of-kind}
 use Rattle.tree.specs.Stepping.{Picked, step-left, step-right}
 use Rattle.tree.specs.declared.query.Found.the-variants.{At, TooFew}
 use Rattle.tree.specs.declared.steps.Step.{Step}
-use Rattle.tree.proofs.Down.{On, down-left, down-right}
+use Rattle.tree.proofs.Down.{On, OnFork, down-left, down-right}
 
 -- ---- where a place leads
 
@@ -102,26 +99,30 @@ module _ {t₀ : Tree} {place len at sum : ℕ} where
     reach-total = rw e (omega (arith, p .total))
 
 -- A step of the walk, to the child that the place leads to.
-pub reach-step : {w : List ℕ} {n levels : ℕ} {t₀ : Tree} {place len at sum more : ℕ} (o : On w n levels (Reaching t₀ place len at sum)) {f : Fork} (s : Step)
-    → node-at w n ≡ fork f → (at < f .«left_total» → s ≡ step-left f at) → (f .«left_total» ≤ at → s ≡ step-right f len at)
+pub reach-step : {w : List ℕ} {n levels : ℕ} {t₀ : Tree} {place len at sum more : ℕ} {f : Fork}
+    (o : OnFork w n levels (Reaching t₀ place len at sum) f) (s : Step)
+    → (at < f .«left_total» → s ≡ step-left f at) → (f .«left_total» ≤ at → s ≡ step-right f len at)
     → Picked (s .left) 0 (f .«left_ones») more → On w (s .child) (levels - 1) (Reaching t₀ place (s .length) (s .index) (sum + more))
-reach-step {at = at} o {f} s e left right x =
+reach-step {at = at} {f = f} o s left right x =
     by-ltb at (f .«left_total»)
-    (λ _ h. rw (x .one (ap (λ (u : Step). u .left) (left h)), left h) (down-left o e _ (λ m l r q p. reach-first m l r f q p h)))
-    (λ _ h. rw (x .other (ap (λ (u : Step). u .left) (right h)), right h) (down-right o e _ (λ m l r q p. reach-second m l r f q p h)))
+    (λ _ h. rw (x .one (ap (λ (u : Step). u .left) (left h)), left h) (down-left o _ (λ m l r q p. reach-first m l r f q p h)))
+    (λ _ h. rw (x .other (ap (λ (u : Step). u .left) (right h)), right h) (down-right o _ (λ m l r q p. reach-second m l r f q p h)))
 
 -- the bit of a leaf at a place, in the word that holds it
-pub bit-picked : (low high i : ℕ) {first : Bool} {word : ℕ} → Picked first low high word → (first ≡ true → i < 64) → (first ≡ false → 64 ≤ i) → i < 128
-    → odd (word / 2 ^ (i % 64)) ≡ access i (bits 64 low ++ bits 64 high)
-bit-picked low high i {first} x passed failed h =
+pub bit-picked : (x : Leaf) (i : ℕ) {first : Bool} {word : ℕ} → Picked first (x .low) (x .high) word
+    → (first ≡ true → i < 64) → (first ≡ false → 64 ≤ i) → i < 128 → odd (word / 2 ^ (i % 64)) ≡ access i (bits-of x)
+unfolding bits-of
+bit-picked x i {first} p passed failed h =
     by-test first
-    (λ t. let l = passed t in let k : i % 64 ≡ i = omega arith in rw (x .one t, k) (bit-low low high i l))
-    (λ t. let l = failed t in let k : i % 64 ≡ i - 64 = omega arith in rw (x .other t, k) (bit-high low high i l h))
+    (λ t. let l = passed t in let k : i % 64 ≡ i = omega arith in rw (p .one t, k) (bit-low x i l))
+    (λ t. let l = failed t in let k : i % 64 ≡ i - 64 = omega arith in rw (p .other t, k) (bit-high x i l h))
 
 -- there are no more marks of a kind than marks
 pub rank-most : (t : Tree) (b : Bool) (end : ℕ) → rank b end (marks t) ≤ size t
 unfolding rank count
-rank-most t b end = omega (arith, ones-le (wanted b (take end (marks t))), wanted-length b (take end (marks t)), length-take end (marks t), size-marks t)
+rank-most t b end =
+    let xs : List Bool = take end (marks t) in
+    omega (arith, ones-le (wanted b xs), wanted-length b xs, length-take end (marks t), size-marks t)
 
 -- ---- select
 
@@ -176,13 +177,13 @@ near-of before (some p) f = f p refl
 
 module _ {t₀ : Tree} {b : Bool} {k skip before : ℕ} where
   -- in a leaf the mark is found, or the leaf is the last and has too few
-  module _ (m : ℕ) (xs : List Bool) (x : Leaf) (e : x ≡ leaf-of xs) (h : length xs ≤ 127) (p : Selecting t₀ b k skip before (Tree.leaf m xs)) (r : Place)
-      (a : r ≡ placed (select b (skip + 1) (bits-of x))) where
+  module _ (m : ℕ) (xs : List Bool) (x : Leaf) (e : x ≡ leaf-of xs) (h : length xs ≤ 127)
+      (p : Selecting t₀ b k skip before (Tree.leaf m xs)) (r : Place) (a : r ≡ placed (select b (skip + 1) (bits-of x))) where
     pub select-near : size t₀ + 128 < 2 ^ 64 → Near before r
     unfolding bits-of size
     select-near l =
-        rw a (near-of before (select b (skip + 1) (bits-of x))
-        (λ q f. omega (arith, select-below b (skip + 1) (bits-of x) q f, length-append (bits 64 (x .low)) (bits 64 (x .high)), bits-length 64 (x .low), bits-length 64 (x .high), p .room)))
+        let size = both-length x in
+        rw a (near-of before (select b (skip + 1) (bits-of x)) (λ q f. omega (arith, select-below b (skip + 1) (bits-of x) q f, p .room)))
 
     -- the answer on the leaf's marks, and on the zeros past them
     held : r ≡ placed (select b (skip + 1) (bits-of (leaf-of xs)))
@@ -201,9 +202,10 @@ module _ {t₀ : Tree} {b : Bool} {k skip before : ℕ} where
 
         few : count b xs ≤ skip → found-at before total r ≡ found-of (select b k (marks t₀))
         few l =
-            ap (found-at before total)
-            (held ∙ ap placed (ap (select b (skip + 1)) (held-bits xs (omega arith)) ∙ select-in-second b (skip + 1) xs (replicate (128 - length xs) false) (omega arith)))
-            ∙ found-past before total (length xs) (select b (skip + 1 - count b xs) (replicate (128 - length xs) false)) (p .last l ∙ z)
+            let zeros : List Bool = replicate (128 - length xs) false in
+            let past = ap (select b (skip + 1)) (held-bits xs (omega arith)) ∙ select-in-second b (skip + 1) xs zeros (omega arith) in
+            ap (found-at before total) (held ∙ ap placed past)
+            ∙ found-past before total (length xs) (select b (skip + 1 - count b xs) zeros) (p .last l ∙ z)
             ∙ ap (λ (o : Option ℕ). found-of (further before o)) (sym (select-none b (skip + 1) xs (omega arith))) ∙ ap found-of (p .place)
 
   module _ (m : ℕ) (l r : Tree) (f : Fork) (e : f ≡ fork-of l r) (p : Selecting t₀ b k skip before (Tree.fork m l r)) where
@@ -228,7 +230,8 @@ module _ {t₀ : Tree} {b : Bool} {k skip before : ℕ} where
           less = omega (arith, p .less);
           place =
               sym (further-further before (size l) _)
-              ∙ ap (further before) (ap (λ (j : ℕ). further (size l) (select b j (marks r))) (sym left) ∙ sym (select-right l r b (skip + 1) (omega arith))) ∙ p .place;
+              ∙ ap (λ (j : ℕ). further before (further (size l) (select b j (marks r)))) (sym left)
+              ∙ ap (further before) (sym (select-right l r b (skip + 1) (omega arith))) ∙ p .place;
           room = omega (arith, p .room);
           last = λ c. let whole = p .last (omega (arith, count-append b (marks l) (marks r))) in omega arith;
         })
@@ -243,11 +246,12 @@ module _ {t₀ : Tree} {b : Bool} {k skip before : ℕ} where
     select-before = rw e (omega (arith, p .room))
 
 -- A step of the walk, to the child that has the mark, where a test tells which.
-pub select-step : {w : List ℕ} {n levels : ℕ} {t₀ : Tree} {b : Bool} {k skip before : ℕ} (o : On w n levels (Selecting t₀ b k skip before)) {f : Fork}
-    {first : Bool} {here child total less : ℕ} → node-at w n ≡ fork f → here ≡ of-kind b (f .«left_total») (f .«left_ones»)
+pub select-step : {w : List ℕ} {n levels : ℕ} {t₀ : Tree} {b : Bool} {k skip before : ℕ} {f : Fork}
+    (o : OnFork w n levels (Selecting t₀ b k skip before) f) {first : Bool} {here child total less : ℕ}
+    → here ≡ of-kind b (f .«left_total») (f .«left_ones»)
     → Picked first (f .left) (f .right) child → Picked first 0 (f .«left_total») total → Picked first 0 here less
     → (first ≡ true → skip < here) → (first ≡ false → here ≤ skip) → On w child (levels - 1) (Selecting t₀ b k (skip - less) (before + total))
-select-step o {f} {first} e z x y v passed failed =
+select-step {f = f} o {first} z x y v passed failed =
     by-test first
-    (λ t. rw (x .one t, y .one t, v .one t) (down-left o e _ (λ m l r q p. select-first m l r f q p (rw z at (passed t)))))
-    (λ t. rw (x .other t, y .other t, v .other t, z) (down-right o e _ (λ m l r q p. select-second m l r f q p (rw z at (failed t)))))
+    (λ t. rw (x .one t, y .one t, v .one t) (down-left o _ (λ m l r q p. select-first m l r f q p (rw z at (passed t)))))
+    (λ t. rw (x .other t, y .other t, v .other t, z) (down-right o _ (λ m l r q p. select-second m l r f q p (rw z at (failed t)))))

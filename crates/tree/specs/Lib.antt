@@ -1,3 +1,3 @@
 pub mod Query
+pub mod TreeAt
 pub mod Stepping
-pub mod Writing

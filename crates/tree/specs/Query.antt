@@ -9,8 +9,8 @@ use Rattle.model.specs.Edit.{leaf-at}
 use Rattle.model.specs.Marks.{access, rank}
 use Rattle.model.specs.Tree.{Tree, marks}
 use Rattle.bits.specs.Leaf.{leaf-of}
-use Rattle.bits.specs.declared.select.Place.{Place}
-use Rattle.bits.specs.declared.select.Place.the-variants.{At as at, Nothing as nothing}
+use Rattle.select.specs.declared.select.Place.{Place}
+use Rattle.select.specs.declared.select.Place.the-variants.{At as at, Nothing as nothing}
 use Rattle.tree.specs.declared.query.Found.{Found}
 use Rattle.tree.specs.declared.query.Spot.{Spot}
 use Rattle.tree.specs.declared.query.Found.the-variants.{At, TooFew}

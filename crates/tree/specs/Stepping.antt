@@ -10,7 +10,12 @@ step-left f i = record { left = true; child = f .left; length = f .«left_total�
 
 -- the marks of the left child are passed over
 abbrev pub step-right : Fork → ℕ → ℕ → Step
-step-right f total i = record { left = false; child = f .right; length = total - f .«left_total»; index = i - f .«left_total» }
+step-right f total i = record {
+  left = false;
+  child = f .right;
+  length = total - f .«left_total»;
+  index = i - f .«left_total»;
+}
 
 -- r is the first of two numbers where a test passed, and the other one where it failed
 pub record Picked (first : Bool) (a b r : ℕ) : Type 0 where

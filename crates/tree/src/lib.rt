@@ -2,7 +2,6 @@
 // value; where they are kept is not known here.
 mod query;
 mod steps;
-mod writing;
 
 pub use query::Found;
 pub use query::access;
@@ -11,8 +10,6 @@ pub use query::rank;
 pub use query::select;
 pub use steps::Step;
 pub use steps::toward;
-pub use writing::values;
-pub use writing::words_for;
 
 // No leaf is more than this many levels down.
 pub const LEVELS: u64 = 12;

@@ -10,16 +10,16 @@ ghost use Rattle.model.specs.Tree.{Tree, marks, size};
 ghost use Rattle.bits.specs.Leaf.{bits-of};
 ghost use Rattle.pool.specs.Layout.{Rooted};
 ghost use Rattle.tree.specs.Query.{Near, Spotted, found-at, found-of, of-kind};
+ghost use Rattle.tree.specs.TreeAt.{TreeAt};
 use crate::LEVELS;
 use crate::steps::either;
 use crate::steps::toward;
 use bits::Leaf;
-use bits::Place;
-use bits::select128;
-use pool::Node;
+use bits::WORD_BITS;
+use pool::TreeNode;
 use pool::leaf_or_fork;
-
-const WORD_BITS: u64 = 64;
+use select::Place;
+use select::select128;
 
 // Where a place of a tree lies: the leaf, how many marks it holds, the place in it, and how many strikes stand before
 // the leaf.
@@ -30,18 +30,16 @@ pub struct Spot {
     pub ones: u64,
 }
 
-// Where a wanted mark stands; that there are too few; or that its leaf lacks it.
+// Where a wanted mark stands, or that there are too few.
 pub enum Found {
     At(u64),
     TooFew,
-    Missing,
 }
 
 // The leaf that a place leads to: left where it is below the left child's total, else right.
 fn reach(nodes: &[u64], root: u64, length: u64, place: u64) -> Spot
-    requires { ⌜ ((t : Tree) × Rooted (now nodes) root levels t × (size t ≡ length) × (place ≤ length)) ⌝ }
-    ensures { λ r. ⌜ ((t : Tree) → Rooted (now (nodes .entry)) root levels t → size t ≡ length → place ≤ length
-        → Spotted t place r) ⌝ }
+    requires { ⌜ TreeAt (now nodes) root levels length × (place ≤ length) ⌝ }
+    ensures { λ r. ⌜ ((s : TreeAt (now (nodes .entry)) root levels length) → Spotted (s .tree) place r) ⌝ }
 {
     let mut n = root;
     let mut len = length;
@@ -50,7 +48,7 @@ fn reach(nodes: &[u64], root: u64, length: u64, place: u64) -> Spot
     let mut levels = LEVELS;
     loop {
         match leaf_or_fork(nodes, n) {
-            Node::Leaf(leaf) => {
+            TreeNode::Leaf(leaf) => {
                 return Spot {
                     leaf,
                     length: len,
@@ -58,7 +56,7 @@ fn reach(nodes: &[u64], root: u64, length: u64, place: u64) -> Spot
                     ones,
                 };
             }
-            Node::Fork(fork) => {
+            TreeNode::Fork(fork) => {
                 levels -= 1;
                 let step = toward(fork, len, at);
                 n = step.child;
@@ -66,20 +64,7 @@ fn reach(nodes: &[u64], root: u64, length: u64, place: u64) -> Spot
                 at = step.index;
                 ones += either(step.left, 0, fork.left_ones);
             }
-            Node::Free(_) => return nowhere(),
-            Node::Broken => return nowhere(),
         }
-    }
-}
-
-// An empty leaf, for words that hold no tree.
-fn nowhere() -> Spot {
-    let leaf = Leaf { low: 0, high: 0 };
-    Spot {
-        leaf,
-        length: 0,
-        at: 0,
-        ones: 0,
     }
 }
 
@@ -115,9 +100,9 @@ fn mark_at(leaf: Leaf, at: u64) -> bool
 
 // How many strikes stand before a place.
 fn strikes(nodes: &[u64], root: u64, length: u64, end: u64) -> u64
-    requires { ⌜ ((t : Tree) × Rooted (now nodes) root levels t × (size t ≡ length) × (end ≤ length)) ⌝ }
-    ensures { λ r. ⌜ ((t : Tree) → Rooted (now (nodes .entry)) root levels t → size t ≡ length
-        → r ≡ Marks.rank true end (marks t)) ⌝ }
+    requires { ⌜ TreeAt (now nodes) root levels length × (end ≤ length) ⌝ }
+    ensures { λ r. ⌜ ((s : TreeAt (now (nodes .entry)) root levels length)
+        → r ≡ Marks.rank true end (marks (s .tree))) ⌝ }
 {
     let spot = reach(nodes, root, length, end);
     let leaf = spot.leaf;
@@ -157,12 +142,12 @@ pub fn select(nodes: &[u64], root: u64, length: u64, bit: bool, k: u64) -> Found
     let mut levels = LEVELS;
     loop {
         match leaf_or_fork(nodes, n) {
-            Node::Leaf(leaf) => return placed(
+            TreeNode::Leaf(leaf) => return placed(
                 before,
                 length,
                 select128(leaf.low, leaf.high, bit, skip + 1),
             ),
-            Node::Fork(fork) => {
+            TreeNode::Fork(fork) => {
                 levels -= 1;
                 let here = wanted(fork.left_total, fork.left_ones, bit);
                 let first = skip < here;
@@ -170,8 +155,6 @@ pub fn select(nodes: &[u64], root: u64, length: u64, bit: bool, k: u64) -> Found
                 before += either(first, 0, fork.left_total);
                 skip -= either(first, 0, here);
             }
-            Node::Free(_) => return Found::Missing,
-            Node::Broken => return Found::Missing,
         }
     }
 }

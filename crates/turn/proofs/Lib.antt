@@ -1,8 +1,10 @@
 pub mod Changing
 pub mod Differences
 pub mod Evening
+pub mod Joined
 pub mod Leaning
 pub mod Pinned
 pub mod Places
 pub mod Read
+pub mod Rising
 pub mod Sites

@@ -3,31 +3,32 @@
 use Prim.Native.Nat.{ℕ, _+_, _-_}
 use native.Mathlib.Omega.{arith}
 use mathlib.Core.Path.{_≡_, refl, sym, ap, _∙_}
-use mathlib.Core.Bool.{true}
-use mathlib.Core.List.{List, _++_, List·Memᴰ, List·Memᴰ·head, List·Memᴰ·tail, Memᴰ·append-left, Memᴰ·append-right, Memᴰ·cast}
+use mathlib.Core.Bool.{Bool, true, false}
+use mathlib.Core.List.{List, _∷_, _++_, List·Memᴰ, List·Memᴰ·head, List·Memᴰ·tail, Memᴰ·append-left, Memᴰ·append-right, Memᴰ·cast}
 use lib.ListN.{length}
 use Rattle.model.specs.Marks.{count}
 use Rattle.model.specs.Sound.{Distinct, Rearranged}
 use Rattle.model.specs.Tree as Tree
-use Rattle.model.specs.Tree.{Tree, fork, marks, size, height, numbers}
-use Rattle.model.specs.Turn.{turn-right, turn-left}
+use Rattle.model.specs.Tree.{Tree, marks, size, height, numbers}
 use Rattle.model.proofs.Content.{size-marks}
-use Rattle.model.proofs.Distincts.{distinct-first, distinct-second, distinct-apart}
-use Rattle.model.proofs.Numbers.{weight, numbers-weight}
-use Rattle.model.proofs.Rearranged.{weigh, weigh-append, rearranged-distinct}
+use Rattle.model.proofs.Distincts.{distinct-first, distinct-apart}
+use Rattle.model.proofs.Rearranged.{weigh, weigh-append, rearranged-sym, rearranged-member, rearranged-distinct}
 use Rattle.pool.specs.Layout.{fork-of, Holds, Edited}
 use Rattle.pool.specs.Node.{node-at, fork-cell, put, Put}
 use Rattle.pool.specs.declared.node.Fork.{Fork}
 use Rattle.pool.specs.declared.node.Node.the-variants as Node
 use Rattle.pool.proofs.Cells.{fork-says, put-fork}
 use Rattle.pool.proofs.Standing.{holds-same}
-use Rattle.turn.specs.Words.{TurnsRight, TurnsLeft}
+use Rattle.turn.specs.Forks.{joined, over}
+use Rattle.turn.specs.Words.{Turns, turn, unturned}
+use Rattle.turn.proofs.Joined.{joined-numbers, joined-parts, joined-holds, turned-is}
 use Rattle.turn.proofs.Leaning.{Alike}
 
 -- ---- one edit after another
 
 -- the second changes no other nodes than the first
-pub then : {w w′ w″ : List ℕ} {ms ns : List ℕ} {t u : Tree} → Edited w w′ ms t → Edited w′ w″ ns u → ((k : ℕ) → List·Memᴰ k ns → List·Memᴰ k ms) → Edited w w″ ms u
+pub then : {w w′ w″ : List ℕ} {ms ns : List ℕ} {t u : Tree} → Edited w w′ ms t → Edited w′ w″ ns u
+    → ((k : ℕ) → List·Memᴰ k ns → List·Memᴰ k ms) → Edited w w″ ms u
 then p q of =
     record {
       size = q .size ∙ p .size;
@@ -41,168 +42,119 @@ untouched w ns t h = record { size = refl; holds = h; else = λ k out. refl }
 
 -- ---- a turn
 
--- numbers that stand in no tree of three, and are two
-record Clear (n b : ℕ) (a c e : Tree) : Type 0 where
-  two : n ≡ b → ⊥
-  top-a : List·Memᴰ n (numbers a) → ⊥
-  top-c : List·Memᴰ n (numbers c) → ⊥
-  top-e : List·Memᴰ n (numbers e) → ⊥
-  low-a : List·Memᴰ b (numbers a) → ⊥
-  low-c : List·Memᴰ b (numbers c) → ⊥
-  low-e : List·Memᴰ b (numbers e) → ⊥
+-- the numbers of the tree: the top's, the child's, and those of A, C and E
+module _ (left : Bool) (n b : ℕ) (a c e : Tree) where
+  spread : Rearranged (numbers (joined left n a (joined left b c e))) (n ∷ (b ∷ (numbers a ++ (numbers c ++ numbers e))))
+  unfolding weigh
+  spread w =
+      let top = simp weigh-append at (joined-numbers left n a (joined left b c e) w) in
+      let child = simp weigh-append at (joined-numbers left b c e w) in
+      simp weigh-append (omega arith)
 
-clear : (n b : ℕ) (a c e : Tree) → Distinct (numbers (fork n (fork b a c) e)) → Clear n b a c e
-unfolding numbers
-clear n b a c e d =
-    record {
-      two = λ p. d .0 (List·Memᴰ·head p);
-      top-a = λ m. d .0 (List·Memᴰ·tail (Memᴰ·append-left (numbers e) (Memᴰ·append-left (numbers c) m)));
-      top-c = λ m. d .0 (List·Memᴰ·tail (Memᴰ·append-left (numbers e) (Memᴰ·append-right (numbers a) m)));
-      top-e = λ m. d .0 (List·Memᴰ·tail (Memᴰ·append-right (numbers a ++ numbers c) m));
-      low-a = λ m. d .1 .0 (Memᴰ·append-left (numbers e) (Memᴰ·append-left (numbers c) m));
-      low-c = λ m. d .1 .0 (Memᴰ·append-left (numbers e) (Memᴰ·append-right (numbers a) m));
-      low-e = λ m. d .1 .0 (Memᴰ·append-right (numbers a ++ numbers c) m);
-    }
+  module _ (d : Distinct (numbers (joined left n a (joined left b c e)))) where
+    apart : Distinct (n ∷ (b ∷ (numbers a ++ (numbers c ++ numbers e))))
+    apart = rearranged-distinct _ _ spread d
 
--- a tree has the same numbers before and after a turn to the left
-turned-numbers : (n b : ℕ) (a c e : Tree) → Rearranged (numbers (fork n a (fork b c e))) (numbers (fork n (fork b a c) e))
-unfolding weight
-turned-numbers n b a c e w = simp numbers-weight (omega arith)
+    two : n ≡ b → ⊥
+    two p = apart .0 (List·Memᴰ·head p)
 
+-- the child's fork is put, and then the top's
 module _ {w w₁ w₂ : List ℕ} {n b : ℕ} {f g : Fork} (p : Put w w₁ b (Node.Fork f)) (q : Put w₁ w₂ n (Node.Fork g)) where
   both-else : (k : ℕ) → (k ≡ n → ⊥) → (k ≡ b → ⊥) → node-at w₂ k ≡ node-at w k
   both-else k top low = q .else k top ∙ p .else k low
 
-  kept : (t : Tree) → (List·Memᴰ n (numbers t) → ⊥) → (List·Memᴰ b (numbers t) → ⊥) → Holds w t → Holds w₂ t
-  kept t top low h = holds-same w w₂ t (λ k m. both-else k (λ e. top (Memᴰ·cast (sym e) m)) (λ e. low (Memᴰ·cast (sym e) m))) h
-
-  low-here : (n ≡ b → ⊥) → node-at w₂ b ≡ Node.Fork f
-  low-here two = q .else b (λ e. two (sym e)) ∙ p .here
-
-  -- a turn to the right
-  pub right-edited : (a c e : Tree) → f ≡ fork-of c e → g ≡ fork-of a (fork b c e) → Holds w (fork n (fork b a c) e) → Distinct (numbers (fork n (fork b a c) e))
-      → Edited w w₂ (numbers (fork n (fork b a c) e)) (turn-right (fork n (fork b a c) e))
-  unfolding turn-right numbers
-  right-edited a c e fe ge h d =
-      let k = clear n b a c e d in
+  turned-edited : (left : Bool) (a c e : Tree) → f ≡ over left a c → g ≡ over left (joined left b a c) e
+      → Holds w (joined left n a (joined left b c e)) → Distinct (numbers (joined left n a (joined left b c e)))
+      → Edited w w₂ (numbers (joined left n a (joined left b c e))) (joined left n (joined left b a c) e)
+  turned-edited left a c e fe ge h d =
+      let clear = apart left n b a c e d in
+      let all = numbers a ++ (numbers c ++ numbers e) in
+      let kept : (t : Tree) → ((k : ℕ) → List·Memᴰ k (numbers t) → List·Memᴰ k all) → Holds w t → Holds w₂ t =
+      λ t of. holds-same w w₂ t
+      (λ k m.
+      both-else k (λ same. clear .0 (List·Memᴰ·tail (Memᴰ·cast (sym same) (of k m)))) (λ same. clear .1 .0 (Memᴰ·cast (sym same) (of k m)))) in
+      let parts = joined-parts left w n a (joined left b c e) h in
+      let below = joined-parts left w b c e (parts .1) in
+      let low = q .else b (λ same. two left n b a c e d (sym same)) ∙ p .here ∙ ap Node.Fork fe in
+      let old : (k : ℕ) → List·Memᴰ k (n ∷ (b ∷ all)) → List·Memᴰ k (numbers (joined left n a (joined left b c e))) =
+      λ k. rearranged-member k _ _ (rearranged-sym _ _ (spread left n b a c e)) in
       record {
         size = q .size ∙ p .size;
-        holds = (
-          q .here ∙ ap Node.Fork ge,
-          kept a (k .top-a) (k .low-a) (h .1 .1),
-          (low-here (k .two) ∙ ap Node.Fork fe, kept c (k .top-c) (k .low-c) (h .1 .2), kept e (k .top-e) (k .low-e) (h .2)),
-        );
-        else = λ j out. both-else j (λ m. out (List·Memᴰ·head m)) (λ m. out (List·Memᴰ·tail (List·Memᴰ·head m)));
+        holds =
+            joined-holds left w₂ n (joined left b a c) e (q .here ∙ ap Node.Fork ge)
+            (joined-holds left w₂ b a c low
+            (kept a (λ k m. Memᴰ·append-left (numbers c ++ numbers e) m) (parts .0))
+            (kept c (λ k m. Memᴰ·append-right (numbers a) (Memᴰ·append-left (numbers e) m)) (below .0)))
+            (kept e (λ k m. Memᴰ·append-right (numbers a) (Memᴰ·append-right (numbers c) m)) (below .1));
+        else = λ j out. both-else j (λ m. out (old j (List·Memᴰ·head m))) (λ m. out (old j (List·Memᴰ·tail (List·Memᴰ·head m))));
       }
 
-  -- a turn to the left
-  pub left-edited : (a c e : Tree) → f ≡ fork-of a c → g ≡ fork-of (fork b a c) e → Holds w (fork n a (fork b c e)) → Distinct (numbers (fork n a (fork b c e)))
-      → Edited w w₂ (numbers (fork n a (fork b c e))) (turn-left (fork n a (fork b c e)))
-  unfolding turn-left numbers
-  left-edited a c e fe ge h d =
-      let k = clear n b a c e (rearranged-distinct _ _ (turned-numbers n b a c e) d) in
-      record {
-        size = q .size ∙ p .size;
-        holds = (
-          q .here ∙ ap Node.Fork ge,
-          (low-here (k .two) ∙ ap Node.Fork fe, kept a (k .top-a) (k .low-a) (h .1), kept c (k .top-c) (k .low-c) (h .2 .1)),
-          kept e (k .top-e) (k .low-e) (h .2 .2),
-        );
-        else = λ j out. both-else j (λ m. out (List·Memᴰ·head m)) (λ m. out (List·Memᴰ·tail (Memᴰ·append-right (numbers a) (List·Memᴰ·head m))));
-      }
+-- what is put in the place of two forks, the lower first
+two-puts : {w w₁ w₂ : List ℕ} (n b : ℕ) (f g lo hi : Fork) → (n ≡ b → ⊥) → node-at w b ≡ Node.Fork f → node-at w n ≡ Node.Fork g
+    → w₁ ≡ put w b (fork-cell lo) → w₂ ≡ put w₁ n (fork-cell hi) → Put w w₁ b (Node.Fork lo) × Put w₁ w₂ n (Node.Fork hi)
+two-puts {w} {w₁} n b f g lo hi two low top e₁ e₂ =
+    let p : Put w w₁ b (Node.Fork lo) = rw e₁ (put-fork w b lo (fork-says w b f low .0)) in
+    (p, rw e₂ (put-fork w₁ n hi (fork-says w₁ n g (p .else n two ∙ top) .0)))
+
+pub turned-words : {w w₁ w₂ : List ℕ} (left : Bool) {n : ℕ} (b : ℕ) (lo hi : Fork) (t : Turns left w n) → w₁ ≡ put w b (fork-cell lo)
+    → w₂ ≡ put w₁ n (fork-cell hi) → b ≡ t .b → lo ≡ over left (t .a) (t .c) → hi ≡ over left (joined left (t .b) (t .a) (t .c)) (t .e)
+    → Edited w w₂ (numbers (unturned left n t)) (turn left (unturned left n t))
+turned-words {w} left {n} b lo hi t e₁ e₂ at lo-is hi-is =
+    let h = t .stands .holds in
+    let d = t .stands .distinct in
+    let child = joined-parts left w n (t .a) (joined left (t .b) (t .c) (t .e)) h .1 in
+    let p = two-puts n (t .b) _ _ lo hi (two left n (t .b) (t .a) (t .c) (t .e) d) (child .0) (h .0) (rw (← at) e₁) e₂ in
+    rw (turned-is left n (t .b) (t .a) (t .c) (t .e)) (turned-edited (p .0) (p .1) left (t .a) (t .c) (t .e) lo-is hi-is h d)
 
 -- ---- an edit of a child
 
 pub alike-size : (t u : Tree) → Alike t u → size u ≡ size t
 alike-size t u e = size-marks u ∙ ap length (e .marks-are) ∙ sym (size-marks t)
 
-module _ {w w′ : List ℕ} (n : ℕ) (l r t : Tree) (h : Holds w (fork n l r)) (d : Distinct (numbers (fork n l r))) where
-  pub under-left : Alike l t → Edited w w′ (numbers l) t → Edited w w′ (numbers (fork n l r)) (fork n t r)
-  unfolding numbers fork-of
-  under-left e p =
-      let over : fork-of l r ≡ fork-of t r =
-      λ i. record {
-        left = sym (e .top-is) i;
-        right = Tree.top r;
-        «left_total» = sym (alike-size l t e) i;
-        «left_ones» = count true (sym (e .marks-are) i);
-        balance = (height r + 2) - sym (e .height-is) i;
-      } in
+-- the fork above says the same
+over-alike : (left : Bool) (x t y : Tree) → Alike x t → over left x y ≡ over left t y
+unfolding fork-of
+over-alike true x t y e =
+    λ i. record {
+      left = sym (e .top-is) i;
+      right = Tree.top y;
+      «left_total» = sym (alike-size x t e) i;
+      «left_ones» = count true (sym (e .marks-are) i);
+      balance = (height y + 2) - sym (e .height-is) i;
+    }
+over-alike false x t y e =
+    λ i. record {
+      left = Tree.top y;
+      right = sym (e .top-is) i;
+      «left_total» = size y;
+      «left_ones» = count true (marks y);
+      balance = (sym (e .height-is) i + 2) - height y;
+    }
+
+module _ (left : Bool) (n : ℕ) (x y : Tree) where
+  pub near-distinct : Distinct (numbers (joined left n x y)) → Distinct (numbers x)
+  near-distinct d = distinct-first (numbers x) (numbers y) (rearranged-distinct _ _ (joined-numbers left n x y) d .1)
+
+  -- the fork above has the same numbers
+  pub alike-joined : (t : Tree) → Alike x t → Rearranged (numbers (joined left n x y)) (numbers (joined left n t y))
+  unfolding weigh
+  alike-joined t e w =
+      let old = simp weigh-append at (joined-numbers left n x y w) in
+      let new = simp weigh-append at (joined-numbers left n t y w) in
+      omega (arith, e .numbers-are w)
+
+  pub under : {w w′ : List ℕ} (t : Tree) → Holds w (joined left n x y) → Distinct (numbers (joined left n x y)) → Alike x t
+      → Edited w w′ (numbers x) t → Edited w w′ (numbers (joined left n x y)) (joined left n t y)
+  under {w} {w′} t h d e p =
+      let apart = rearranged-distinct _ _ (joined-numbers left n x y) d in
+      let top = p .else n (λ m. apart .0 (Memᴰ·append-left (numbers y) m)) ∙ h .0 ∙ ap Node.Fork (over-alike left x t y e) in
+      let other = joined-parts left w n x y h .1 in
       record {
         size = p .size;
-        holds = (
-          p .else n (λ m. d .0 (Memᴰ·append-left (numbers r) m)) ∙ h .0 ∙ ap Node.Fork over,
-          p .holds,
-          holds-same w w′ r (λ k m. p .else k (λ m′. distinct-apart (numbers l) (numbers r) (d .1) k m′ m)) (h .2),
-        );
-        else = λ k out. p .else k (λ m. out (List·Memᴰ·tail (Memᴰ·append-left (numbers r) m)));
+        holds =
+            joined-holds left w′ n t y top (p .holds)
+            (holds-same w w′ y (λ k m. p .else k (λ m′. distinct-apart (numbers x) (numbers y) (apart .1) k m′ m)) other);
+        else =
+            λ k out. p .else k
+            (λ m. out (rearranged-member k _ _ (rearranged-sym _ _ (joined-numbers left n x y)) (List·Memᴰ·tail (Memᴰ·append-left (numbers y) m))));
       }
-
-  pub under-right : Alike r t → Edited w w′ (numbers r) t → Edited w w′ (numbers (fork n l r)) (fork n l t)
-  unfolding numbers fork-of
-  under-right e p =
-      let over : fork-of l r ≡ fork-of l t =
-      λ i. record {
-        left = Tree.top l;
-        right = sym (e .top-is) i;
-        «left_total» = size l;
-        «left_ones» = count true (marks l);
-        balance = (sym (e .height-is) i + 2) - height l;
-      } in
-      record {
-        size = p .size;
-        holds = (
-          p .else n (λ m. d .0 (Memᴰ·append-right (numbers l) m)) ∙ h .0 ∙ ap Node.Fork over,
-          holds-same w w′ l (λ k m. p .else k (λ m′. distinct-apart (numbers l) (numbers r) (d .1) k m m′)) (h .1),
-          p .holds,
-        );
-        else = λ k out. p .else k (λ m. out (List·Memᴰ·tail (Memᴰ·append-right (numbers l) m)));
-      }
-
--- the fork above has the same numbers, and as many marks
-module _ (n : ℕ) (l r t : Tree) where
-  pub alike-left : Alike l t → Rearranged (numbers (fork n l r)) (numbers (fork n t r))
-  unfolding numbers weigh
-  alike-left e w = simp weigh-append (omega (arith, e .numbers-are w))
-
-  pub alike-right : Alike r t → Rearranged (numbers (fork n l r)) (numbers (fork n l t))
-  unfolding numbers weigh
-  alike-right e w = simp weigh-append (omega (arith, e .numbers-are w))
-
--- the children's numbers by themselves
-module _ (n : ℕ) (l r : Tree) (d : Distinct (numbers (fork n l r))) where
-  pub left-distinct : Distinct (numbers l)
-  unfolding numbers
-  left-distinct = distinct-first (numbers l) (numbers r) (d .1)
-
-  pub right-distinct : Distinct (numbers r)
-  unfolding numbers
-  right-distinct = distinct-second (numbers l) (numbers r) (d .1)
-
--- ---- two stores
-
--- what is put in the place of two forks, the lower first
-pub two-puts : {w w₁ w₂ : List ℕ} (n b : ℕ) (f g lo hi : Fork) → (n ≡ b → ⊥) → node-at w b ≡ Node.Fork f → node-at w n ≡ Node.Fork g
-    → w₁ ≡ put w b (fork-cell lo) → w₂ ≡ put w₁ n (fork-cell hi) → Put w w₁ b (Node.Fork lo) × Put w₁ w₂ n (Node.Fork hi)
-two-puts {w} {w₁} n b f g lo hi two low top e₁ e₂ =
-    let p : Put w w₁ b (Node.Fork lo) = rw e₁ (put-fork w b lo (fork-says w b f low .0)) in
-    (p, rw e₂ (put-fork w₁ n hi (fork-says w₁ n g (p .else n two ∙ top) .0)))
-
-module _ {w w₁ w₂ : List ℕ} {n : ℕ} (b : ℕ) (lo hi : Fork) (e₁ : w₁ ≡ put w b (fork-cell lo)) (e₂ : w₂ ≡ put w₁ n (fork-cell hi)) where
-  pub right-words : (t : TurnsRight w n) → b ≡ t .b → lo ≡ fork-of (t .c) (t .e) → hi ≡ fork-of (t .a) (fork (t .b) (t .c) (t .e))
-      → Edited w w₂ (numbers (fork n (fork (t .b) (t .a) (t .c)) (t .e))) (turn-right (fork n (fork (t .b) (t .a) (t .c)) (t .e)))
-  right-words t at lo-is hi-is =
-      let h = t .stands .holds in
-      let d = t .stands .distinct in
-      let two = clear n (t .b) (t .a) (t .c) (t .e) d .two in
-      let p = two-puts n (t .b) _ _ lo hi two (h .1 .0) (h .0) (rw (← at) e₁) e₂ in
-      right-edited (p .0) (p .1) (t .a) (t .c) (t .e) lo-is hi-is h d
-
-  pub left-words : (t : TurnsLeft w n) → b ≡ t .b → lo ≡ fork-of (t .a) (t .c) → hi ≡ fork-of (fork (t .b) (t .a) (t .c)) (t .e)
-      → Edited w w₂ (numbers (fork n (t .a) (fork (t .b) (t .c) (t .e)))) (turn-left (fork n (t .a) (fork (t .b) (t .c) (t .e))))
-  left-words t at lo-is hi-is =
-      let h = t .stands .holds in
-      let d = t .stands .distinct in
-      let two = clear n (t .b) (t .a) (t .c) (t .e) (rearranged-distinct _ _ (turned-numbers n (t .b) (t .a) (t .c) (t .e)) d) .two in
-      let p = two-puts n (t .b) _ _ lo hi two (h .2 .0) (h .0) (rw (← at) e₁) e₂ in
-      left-edited (p .0) (p .1) (t .a) (t .c) (t .e) lo-is hi-is h d

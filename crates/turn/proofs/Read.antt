@@ -3,7 +3,6 @@ use Prim.Native.Nat.{ℕ, suc, _+_, _-_, _≤_, max}
 use native.Mathlib.Omega.{arith}
 use mathlib.Core.Path.{_≡_, ap}
 use mathlib.Core.Bool.{true}
-use lib.IntN.{ℤ}
 use Rattle.model.specs.Marks.{count}
 use Rattle.model.specs.Tree as Tree
 use Rattle.model.specs.Tree.{Tree, fork, marks, size, height}
@@ -11,23 +10,14 @@ use Rattle.model.proofs.Content.{size-marks}
 use Rattle.model.proofs.Counting.{count-append, count-both}
 use Rattle.pool.specs.Layout.{fork-of}
 use Rattle.pool.specs.declared.node.Fork.{Fork}
-use Rattle.turn.specs.Apart.{Apart}
-use Rattle.turn.proofs.Differences.{same, both}
-
--- a balance as it is stored, and the difference of heights that it is
-pub from-stored : (z : ℤ) {s : ℕ} (x y : ℕ) → Apart z s 2 → s ≡ (x + 2) - y → y ≤ x + 2 → Apart z x y
-from-stored z x y p e h = same z x y p (omega arith)
-
-pub to-stored : (z : ℤ) {s x y : ℕ} → Apart z s 2 → Apart z x y → y ≤ x + 2 → s ≡ (x + 2) - y
-to-stored z p q h = let e = both z p q in omega arith
 
 -- a tree has no more strikes than marks
 pub ones-size : (t : Tree) → count true (marks t) ≤ size t
 ones-size t = omega (arith, count-both (marks t), size-marks t)
 
 -- a fork that holds what the fork over two trees does
-pub fork-same : (f : Fork) (l r : Tree) → f .left ≡ Tree.top l → f .right ≡ Tree.top r → f .«left_total» ≡ size l → f .«left_ones» ≡ count true (marks l)
-    → f .balance ≡ (height r + 2) - height l → f ≡ fork-of l r
+pub fork-same : (f : Fork) (l r : Tree) → f .left ≡ Tree.top l → f .right ≡ Tree.top r → f .«left_total» ≡ size l
+    → f .«left_ones» ≡ count true (marks l) → f .balance ≡ (height r + 2) - height l → f ≡ fork-of l r
 unfolding fork-of
 fork-same f l r a b c d e i = record { left = a i; right = b i; «left_total» = c i; «left_ones» = d i; balance = e i }
 

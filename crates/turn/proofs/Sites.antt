@@ -35,13 +35,19 @@ module _ {w : List ℕ} {n levels : ℕ} (P : Tree → Type 0) where
       → ((xs : List Bool) → Rooted w n levels (Tree.leaf n xs) → x ≡ leaf-of xs → P (Tree.leaf n xs)) → P t
   unfolding top
   by-leaf-at t x h e p =
-      by-leaf P t x h e (λ m xs k s. subst (λ (i : ℕ). P (Tree.leaf i xs)) (sym (k .at)) (p xs (subst (λ (i : ℕ). Rooted w n levels (Tree.leaf i xs)) (k .at) k) s))
+      by-leaf P t x h e
+      (λ m xs k s.
+      let here = subst (λ (i : ℕ). Rooted w n levels (Tree.leaf i xs)) (k .at) k in
+      subst (λ (i : ℕ). P (Tree.leaf i xs)) (sym (k .at)) (p xs here s))
 
   pub by-fork-at : (t : Tree) (f : Fork) → Rooted w n levels t → node-at w n ≡ Node.Fork f
       → ((l r : Tree) → Rooted w n levels (fork n l r) → f ≡ fork-of l r → P (fork n l r)) → P t
   unfolding top
   by-fork-at t f h e p =
-      by-fork P t f h e (λ m l r k s. subst (λ (i : ℕ). P (fork i l r)) (sym (k .at)) (p l r (subst (λ (i : ℕ). Rooted w n levels (fork i l r)) (k .at) k) s))
+      by-fork P t f h e
+      (λ m l r k s.
+      let here = subst (λ (i : ℕ). Rooted w n levels (fork i l r)) (k .at) k in
+      subst (λ (i : ℕ). P (fork i l r)) (sym (k .at)) (p l r here s))
 
 -- ---- the numbers of a fork and of the chain
 
@@ -79,8 +85,9 @@ module _ (left : Bool) (n : ℕ) (l r : Tree) (free : List ℕ) (once : Distinct
 
 -- ---- the child's site
 
-sited : {w v : List ℕ} {n levels end head : ℕ} (t : Tree) (free : List ℕ) → Rooted w n levels t → Balanced t → Sized 1 t → Distinct (numbers t ++ free)
-    → Chained w end free → first-of end free ≡ head → suc (size t) < 2 ^ 32 → ((k : ℕ) → List·Memᴰ k (numbers t ++ free) → node-at v k ≡ node-at w k)
+sited : {w v : List ℕ} {n levels end head : ℕ} (t : Tree) (free : List ℕ) → Rooted w n levels t → Balanced t → Sized 1 t
+    → Distinct (numbers t ++ free) → Chained w end free → first-of end free ≡ head → suc (size t) < 2 ^ 32
+    → ((k : ℕ) → List·Memᴰ k (numbers t ++ free) → node-at v k ≡ node-at w k)
     → Site v n levels end head t free
 sited {w} {v} {end = end} t free h b s once c first few same =
     record {
@@ -99,15 +106,15 @@ pub site-child : {w v : List ℕ} {n levels end head : ℕ} (left : Bool) (l r :
     → ((k : ℕ) → List·Memᴰ k (numbers (side left l r) ++ free) → node-at v k ≡ node-at w k)
     → Site v (top (side left l r)) (levels - 1) end head (side left l r) free
 site-child {n = n} true l r free s same =
-    sited l free (left-rooted n l r (s .rooted)) (s .balanced .0) (sized-weaken 1 33 l (omega arith) (s .whole .0)) (child-once true n l r free (s .once)) (s .chained)
-    (s .first) (omega (arith, s .few, fork-size n l r)) same
+    sited l free (left-rooted n l r (s .rooted)) (s .balanced .0) (sized-weaken 1 33 l (omega arith) (s .whole .0))
+    (child-once true n l r free (s .once)) (s .chained) (s .first) (omega (arith, s .few, fork-size n l r)) same
 site-child {n = n} false l r free s same =
-    sited r free (right-rooted n l r (s .rooted)) (s .balanced .1) (s .whole .1) (child-once false n l r free (s .once)) (s .chained) (s .first)
-    (omega (arith, s .few, fork-size n l r)) same
+    sited r free (right-rooted n l r (s .rooted)) (s .balanced .1) (s .whole .1)
+    (child-once false n l r free (s .once)) (s .chained) (s .first) (omega (arith, s .few, fork-size n l r)) same
 
 -- where another node has been put at the top
-pub site-below : {w v : List ℕ} {n levels end head : ℕ} {x : Node} (left : Bool) (l r : Tree) (free : List ℕ) → Site w n levels end head (fork n l r) free
-    → Put w v n x → Site v (top (side left l r)) (levels - 1) end head (side left l r) free
+pub site-below : {w v : List ℕ} {n levels end head : ℕ} {x : Node} (left : Bool) (l r : Tree) (free : List ℕ)
+    → Site w n levels end head (fork n l r) free → Put w v n x → Site v (top (side left l r)) (levels - 1) end head (side left l r) free
 site-below {n = n} left l r free s p =
     site-child left l r free s (λ k m. p .else k (λ e. top-apart left n l r free (s .once) (Memᴰ·cast (sym e) m)))
 
@@ -148,7 +155,8 @@ module _ {w u v : List ℕ} {n end head : ℕ} {by : ℤ} {x : Node} {t t′ : T
   first-stays p a out = a .edited .else n out ∙ p .here
 
   -- the node above was put last
-  pub around-last : After w u end head by t t′ free free′ → Put u v n x → (List·Memᴰ n (numbers t′ ++ free′) → ⊥) → Around w v n end head by t t′ free free′
+  pub around-last : After w u end head by t t′ free free′ → Put u v n x → (List·Memᴰ n (numbers t′ ++ free′) → ⊥)
+      → Around w v n end head by t t′ free free′
   around-last a p out =
       let past : (k : ℕ) → List·Memᴰ k (numbers t′ ++ free′) → node-at v k ≡ node-at u k = λ k m. p .else k (λ e. out (Memᴰ·cast (sym e) m)) in
       record {
@@ -162,9 +170,12 @@ module _ {w u v : List ℕ} {n end head : ℕ} {by : ℤ} {x : Node} {t t′ : T
 
 -- ---- the fork above, with t in the child's place
 
+abbrev with : Bool → ℕ → Tree → Tree → Tree → Tree
+with left n l r t = fork n (side left t l) (side left r t)
+
 -- the numbers are rearranged in the fork as they are in the child
 pub fork-rearranged : (left : Bool) (n : ℕ) (l r t : Tree) (free free′ : List ℕ) → Rearranged (numbers (side left l r) ++ free) (numbers t ++ free′)
-    → Rearranged (numbers (fork n l r) ++ free) (numbers (fork n (side left t l) (side left r t)) ++ free′)
+    → Rearranged (numbers (fork n l r) ++ free) (numbers (with left n l r t) ++ free′)
 unfolding numbers weigh
 fork-rearranged true n l r t free free′ same w = let e = simp weigh-append at (same w) in simp weigh-append (omega arith)
 fork-rearranged false n l r t free free′ same w = let e = simp weigh-append at (same w) in simp weigh-append (omega arith)
@@ -182,7 +193,7 @@ other-held w false n l r h = h .1
 
 staled : {v : List ℕ} {n : ℕ} (left : Bool) (l r t : Tree)
     → node-at v n ≡ Node.Fork (fork-at-heights (height l) (height r) (side left t l) (side left r t)) → Holds v t → Holds v (side left r l)
-    → Distinct (numbers (fork n (side left t l) (side left r t))) → suc (size (fork n l r)) < 2 ^ 32 → size t ≤ suc (size (side left l r))
+    → Distinct (numbers (with left n l r t)) → suc (size (fork n l r)) < 2 ^ 32 → size t ≤ suc (size (side left l r))
     → Balanced (fork n l r) → Balanced t → height t ≤ suc (height (side left l r)) → height (side left l r) ≤ suc (height t)
     → Stale v n left (height (side left l r)) (side left t l) (side left r t)
 staled {n = n} true l r t says here there once few more b b′ rose fell =
@@ -215,7 +226,8 @@ staled {n = n} false l r t says here there once few more b b′ rose fell =
     }
 
 -- the height before
-height-before : (left : Bool) (n : ℕ) (l r t : Tree) → suc (max (height (side left l r)) (height (side left (side left r t) (side left t l)))) ≡ height (fork n l r)
+height-before : (left : Bool) (n : ℕ) (l r t : Tree)
+    → suc (max (height (side left l r)) (height (side left (side left r t) (side left t l)))) ≡ height (fork n l r)
 unfolding height
 height-before true n l r t = refl
 height-before false n l r t = omega arith
@@ -223,13 +235,13 @@ height-before false n l r t = omega arith
 -- a child that has kept its height leaves the fork as it leans
 fork-level : (v : List ℕ) (n : ℕ) (left : Bool) (l r t : Tree) → height t ≡ height (side left l r)
     → node-at v n ≡ Node.Fork (fork-at-heights (height l) (height r) (side left t l) (side left r t)) → Holds v t → Holds v (side left r l)
-    → Holds v (fork n (side left t l) (side left r t))
+    → Holds v (with left n l r t)
 unfolding fork-of
 fork-level v n true l r t e says here there = (rw e says, here, there)
 fork-level v n false l r t e says here there = (rw e says, there, here)
 
 stays-level : (left : Bool) (n : ℕ) (l r t : Tree) → height t ≡ height (side left l r) → Balanced (fork n l r)
-    → (rebalance n (side left t l) (side left r t) ≡ fork n (side left t l) (side left r t)) × (height (fork n (side left t l) (side left r t)) ≡ height (fork n l r))
+    → (rebalance n (side left t l) (side left r t) ≡ with left n l r t) × (height (with left n l r t) ≡ height (fork n l r))
 unfolding height
 stays-level true n l r t e b = (rebalance-level n t r (omega arith) (omega arith), rw e)
 stays-level false n l r t e b = (rebalance-level n l t (omega arith) (omega arith), rw e)
@@ -237,7 +249,7 @@ stays-level false n l r t e b = (rebalance-level n l t (omega arith) (omega arit
 module _ {w v : List ℕ} {n levels end head head′ : ℕ} {by : ℤ} (left : Bool) (l r t : Tree) (free free′ : List ℕ)
     (s : Site w n levels end head (fork n l r) free) (k : Altered (side left l r) t free free′)
     (a : Around w v n end head′ by (side left l r) t free free′) where
-  once-again : Distinct (numbers (fork n (side left t l) (side left r t)) ++ free′)
+  once-again : Distinct (numbers (with left n l r t) ++ free′)
   once-again = rearranged-distinct _ _ (fork-rearranged left n l r t free free′ (k .numbers-are)) (s .once)
 
   other-same : (j : ℕ) → List·Memᴰ j (numbers (side left r l)) → node-at v j ≡ node-at w j
@@ -247,7 +259,7 @@ module _ {w v : List ℕ} {n levels end head head′ : ℕ} {by : ℤ} (left : B
   there = holds-same w v (side left r l) other-same (other-held w left n l r (s .rooted .holds))
 
   -- a number that stands neither in the fork nor in the chain stands in neither afterwards
-  stays-out : (j : ℕ) → (List·Memᴰ j (numbers (fork n l r) ++ free) → ⊥) → List·Memᴰ j (numbers (fork n (side left t l) (side left r t))) → ⊥
+  stays-out : (j : ℕ) → (List·Memᴰ j (numbers (fork n l r) ++ free) → ⊥) → List·Memᴰ j (numbers (with left n l r t)) → ⊥
   stays-out j out m =
       out (rearranged-member j _ _ (rearranged-sym _ _ (fork-rearranged left n l r t free free′ (k .numbers-are))) (Memᴰ·append-left free′ m))
 
@@ -259,7 +271,7 @@ module _ {w v : List ℕ} {n levels end head head′ : ℕ} {by : ℤ} (left : B
     -- the fork says all but the new balance
     pub stale : Stale v n left (height (side left l r)) (side left t l) (side left r t)
     stale =
-        staled left l r t says (a .holds) there (distinct-first (numbers (fork n (side left t l) (side left r t))) free′ once-again)
+        staled left l r t says (a .holds) there (distinct-first (numbers (with left n l r t)) free′ once-again)
         (s .few) (k .larger) (s .balanced) (k .balanced) (k .rose) (k .fell)
 
     -- balanced again, it is what the edit of the fork leaves
@@ -275,13 +287,14 @@ module _ {w v : List ℕ} {n levels end head head′ : ℕ} {by : ℤ} (left : B
               };
           chained =
               chained-same v u end free′
-              (λ j m. e .edited .else j (λ m′. distinct-apart (numbers (fork n (side left t l) (side left r t))) free′ once-again j m′ m)) (a .chained);
+              (λ j m. e .edited .else j (λ m′. distinct-apart (numbers (with left n l r t)) free′ once-again j m′ m)) (a .chained);
           first = a .first;
           change = equal grown _ _ (e .change) refl (height-before left n l r t);
         }
 
     -- so it is where the child has kept its height
-    pub after-level : height t ≡ height (side left l r) → After w v end head′ (pos 0) (fork n l r) (rebalance n (side left t l) (side left r t)) free free′
+    pub after-level : height t ≡ height (side left l r)
+        → After w v end head′ (pos 0) (fork n l r) (rebalance n (side left t l) (side left r t)) free free′
     after-level e =
         let z = stays-level left n l r t e (s .balanced) in
         rw (z .0)

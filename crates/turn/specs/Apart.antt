@@ -11,21 +11,15 @@ apart (negsuc n) x y = y ≡ x + suc n
 
 -- z is x less y
 pub record Apart (z : ℤ) (x y : ℕ) : Type 0 where
-  pub told : apart z x y
+  pub is : apart z x y
 
 -- z is neither greater than k nor less than its negative
 abbrev pub Within : ℕ → ℤ → Type 0
 Within k z = natAbs z ≤ k
 
--- What is made of the heights of A, C and E when the node over A and C is lowered to the one over C and E: the balances
--- of the lowered node and of the top, and by how much the whole has grown.
-pub record Rightward (t : Turned) (a c e : ℕ) : Type 0 where
-  pub lowered : Apart (t .lowered) e c
-  pub risen : Apart (t .risen) (suc (max c e)) a
-  pub change : Apart (t .change) (suc (max a (suc (max c e)))) (suc (max (suc (max a c)) e))
-
--- the mirror image: the node over C and E is lowered to the one over A and C
-pub record Leftward (t : Turned) (a c e : ℕ) : Type 0 where
-  pub lowered : Apart (t .lowered) c a
-  pub risen : Apart (t .risen) e (suc (max a c))
+-- What a turn makes of the heights of A, C and E, where the node over C and E is lowered to the one over A and C: the
+-- balances of the lowered node and of the top, seen from A, and by how much the whole has grown.
+pub record Balances (t : Turned) (a c e : ℕ) : Type 0 where
+  pub lowered : Apart (t .lowered) a c
+  pub risen : Apart (t .risen) (suc (max a c)) e
   pub change : Apart (t .change) (suc (max (suc (max a c)) e)) (suc (max a (suc (max c e))))

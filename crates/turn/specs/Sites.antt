@@ -39,15 +39,20 @@ abbrev pub side : {A : Type 0} → Bool → A → A → A
 side true x y = x
 side false x y = y
 
+-- s is what a fork stores whose child on this side has the first height, and the other one the second: by how much the
+-- right child is higher than the left one, and two more
+abbrev pub Stores : Bool → ℕ → ℕ → ℕ → Type 0
+Stores left x y s = s + side left x y ≡ side left y x + 2
+
 -- what a fork over two trees says, with the balance of two heights
 abbrev pub fork-at-heights : ℕ → ℕ → Tree → Tree → Fork
 fork-at-heights hl hr l r =
     record {
+      balance = (hr + 2) - hl;
       left = top l;
       right = top r;
       «left_total» = size l;
       «left_ones» = count true (marks l);
-      balance = (hr + 2) - hl;
     }
 
 -- The fork at n over l and r, of which one, by `left`, has come to its height from the height `was`. All that it says
@@ -71,10 +76,13 @@ pub record Leveled (w w′ : List ℕ) (n : ℕ) (left : Bool) (was : ℕ) (l r 
   pub edited : Edited w w′ (numbers (Tree.fork n l r)) (rebalance n l r)
   pub change : Apart grown (height (rebalance n l r)) (suc (max was (height (side left r l))))
 
--- a fork as it was but for the balance, which is told
-pub record BalanceSet (f : Fork) (balance : ℤ) (g : Fork) : Type 0 where
-  pub left-stays : g .left ≡ f .left
-  pub right-stays : g .right ≡ f .right
-  pub total-stays : g .«left_total» ≡ f .«left_total»
-  pub ones-stay : g .«left_ones» ≡ f .«left_ones»
-  pub told : Apart balance (g .balance) 2
+-- a fork as it was but for the balance
+abbrev pub with-balance : Fork → ℕ → Fork
+with-balance f s =
+    record {
+      left = f .left;
+      right = f .right;
+      «left_total» = f .«left_total»;
+      «left_ones» = f .«left_ones»;
+      balance = s;
+    }

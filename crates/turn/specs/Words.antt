@@ -1,15 +1,17 @@
 -- Trees that are turned where they stand.
 use Prim.Native.Nat.{ℕ, _+_, _≤_, _<_, _^_}
+use mathlib.Core.Bool.{Bool}
 use mathlib.Core.Path.{_≡_}
 use mathlib.Core.List.{List}
 use mathlib.Core.Logic.{_⊎_}
 use lib.IntN.{ℤ, pos, negsuc}
 use Rattle.model.specs.Sound.{Balanced, Distinct}
 use Rattle.model.specs.Tree.{Tree, fork, top, size, height, numbers}
-use Rattle.model.specs.Turn.{rebalance}
+use Rattle.model.specs.Turn.{leaning-left, leaning-right, rebalance, turn-left, turn-right}
 use Rattle.pool.specs.Layout.{Holds, Edited}
 use Rattle.turn.specs.Apart.{Apart}
-use Rattle.turn.specs.Forks.{Leans}
+use Rattle.turn.specs.Forks.{Leans, joined}
+use Rattle.turn.specs.Sites.{side}
 
 -- the words hold a tree whose nodes have a number each
 pub record Standing (w : List ℕ) (t : Tree) : Type 0 where
@@ -17,22 +19,25 @@ pub record Standing (w : List ℕ) (t : Tree) : Type 0 where
   pub distinct : Distinct (numbers t)
   pub few : size t < 2 ^ 32
 
--- a tree at n whose left child is to rise, and the mirror image
-pub record TurnsRight (w : List ℕ) (n : ℕ) : Type 0 where
+-- a tree at n that can be turned to this side: its child on the other side is to rise
+pub record Turns (left : Bool) (w : List ℕ) (n : ℕ) : Type 0 where
   pub b : ℕ
   pub a : Tree
   pub c : Tree
   pub e : Tree
-  pub stands : Standing w (fork n (fork b a c) e)
-  pub leans : Leans (height a) (height c) (height e)
-
-pub record TurnsLeft (w : List ℕ) (n : ℕ) : Type 0 where
-  pub b : ℕ
-  pub a : Tree
-  pub c : Tree
-  pub e : Tree
-  pub stands : Standing w (fork n a (fork b c e))
+  pub stands : Standing w (joined left n a (joined left b c e))
   pub leans : Leans (height e) (height c) (height a)
+
+-- the tree before the turn
+abbrev pub unturned : (left : Bool) {w : List ℕ} (n : ℕ) → Turns left w n → Tree
+unturned left n t = joined left n (t .a) (joined left (t .b) (t .c) (t .e))
+
+-- a tree turned to this side, and a child on this side that is turned to it where it leans to the other
+abbrev pub turn : Bool → Tree → Tree
+turn left t = side left (turn-left t) (turn-right t)
+
+abbrev pub leaning : Bool → Tree → Tree
+leaning left t = side left (leaning-left t) (leaning-right t)
 
 -- a balanced tree at n
 pub record Child (w : List ℕ) (n : ℕ) (t : Tree) : Type 0 where

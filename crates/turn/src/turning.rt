@@ -1,54 +1,49 @@
 // Turning a tree in place, and keeping it balanced. The top number stays the top, and the risen child's number takes
 // the lowered node. Balances are signed here, and a height is told against another.
+//
+//     to the left:                            to the right:
+//
+//       n              n                          n            n
+//      / \            / \                        / \          / \
+//     A   b    →     b   E                      b   A   →    E   b
+//        / \        / \                        / \              / \
+//       C   E      A   C                      E   C            C   A
 ghost use mathlib.Core.Path.{_≡_};
-ghost use Prim.Native.Nat.{ℕ, max, suc};
-ghost use Rattle.model.specs.Tree.{Tree, fork, numbers};
-ghost use Rattle.model.specs.Turn.{leaning-left, leaning-right, turn-left, turn-right};
+ghost use Rattle.model.specs.Tree.{Tree, numbers};
 ghost use Rattle.pool.specs.Layout.{Edited};
-ghost use Rattle.pool.specs.Node.{fork-cell, put};
-ghost use Rattle.turn.specs.Apart.{Apart, Leftward, Rightward, Within};
-ghost use Rattle.turn.specs.Forks.{LeftForks, LeftOver, RightForks, RightOver};
-ghost use Rattle.turn.specs.Words.{Child, Evened, Moved, TurnsLeft, TurnsRight, Uneven};
+ghost use Rattle.turn.specs.Apart.{Balances};
+ghost use Rattle.turn.specs.Forks.{Heights, Risen, Rising};
+ghost use Rattle.turn.specs.Sites.{side};
+ghost use Rattle.turn.specs.Words.{Child, Evened, Moved, Turns, Uneven, leaning, turn, unturned};
 use crate::balance::above;
-use crate::balance::signed;
-use crate::balance::stored;
+use crate::balance::seen;
+use crate::balance::stored_from;
 use pool::Fork;
+use pool::balance_at;
 use pool::fork_at;
 use pool::set_fork;
 
-// The balances of the lowered and of the risen node after a turn, and by how much the whole has grown in height.
+// The balances of the lowered and of the risen node after a turn, seen from A, and by how much the whole has grown in
+// height.
 struct Turned {
     lowered: i64,
     risen: i64,
     change: i64,
 }
 
-// What a turn to the right makes of the left child's balance and the top's, with the heights told against C's.
-fn turned_right(child: i64, top: i64) -> Turned
-    requires { ⌜ (Within 9 child) × (Within 9 top) ⌝ }
-    ensures { λ r. ⌜ ((a : ℕ) (c : ℕ) (e : ℕ) → Apart child c a → Apart top e (suc (max a c)) → Rightward r a c e) ⌝ }
+// What a turn makes of the balances of the child b and of the top, seen from A. The heights are told against C's.
+fn balances(child: i64, top: i64) -> Turned
+    requires { ⌜ Heights child top ⌝ }
+    ensures { λ r. ⌜ ((h : Heights child top) → Balances r (h .a) (h .c) (h .e)) ⌝ }
 {
-    let a = -child;
-    let b = above(a, 0);
-    let e = b + top;
-    let d = above(0, e);
+    let e = -child;
+    let b = above(0, e);
+    let a = b + top;
+    let d = above(a, 0);
     Turned {
-        lowered: e,
-        risen: d - a,
-        change: above(a, d) - above(b, e),
-    }
-}
-
-// The mirror image.
-fn turned_left(child: i64, top: i64) -> Turned
-    requires { ⌜ (Within 9 child) × (Within 9 top) ⌝ }
-    ensures { λ r. ⌜ ((a : ℕ) (c : ℕ) (e : ℕ) → Apart child e c → Apart top (suc (max c e)) a → Leftward r a c e) ⌝ }
-{
-    let mirror = turned_right(-child, -top);
-    Turned {
-        lowered: -mirror.lowered,
-        risen: -mirror.risen,
-        change: mirror.change,
+        lowered: a,
+        risen: d - e,
+        change: above(d, e) - above(a, b),
     }
 }
 
@@ -59,133 +54,104 @@ struct Forks {
     change: i64,
 }
 
-//      d            d
-//     / \          / \
-//    b   E   →    A   b
-//   / \              / \
-//  A   C            C   E
-fn right_forks(top: Fork, child: Fork) -> Forks
-    requires { ⌜ RightForks top child ⌝ }
-    ensures { λ r. ⌜ ((t : RightForks top child) → RightOver r (t .b) (t .a) (t .c) (t .e)) ⌝ }
+// What the two forks of a turn hold afterwards. A fork counts what its left child holds: after a turn to the left the
+// risen one counts A and C together, and after one to the right the lowered one counts C without E.
+fn new_forks(top: Fork, child: Fork, left: bool) -> Forks
+    requires { ⌜ Rising left top child ⌝ }
+    ensures { λ r. ⌜ ((t : Rising left top child) → Risen left r (t .b) (t .a) (t .c) (t .e)) ⌝ }
 {
-    let turned = turned_right(signed(child.balance), signed(top.balance));
+    let turned = balances(seen(child.balance, left), seen(top.balance, left));
+    let lowered = stored_from(turned.lowered, left);
+    let risen = stored_from(turned.risen, left);
+    if left {
+        return Forks {
+            lowered: Fork {
+                left: top.left,
+                right: child.left,
+                left_total: top.left_total,
+                left_ones: top.left_ones,
+                balance: lowered,
+            },
+            risen: Fork {
+                left: top.right,
+                right: child.right,
+                left_total: top.left_total + child.left_total,
+                left_ones: top.left_ones + child.left_ones,
+                balance: risen,
+            },
+            change: turned.change,
+        };
+    }
     Forks {
         lowered: Fork {
             left: child.right,
             right: top.right,
             left_total: top.left_total - child.left_total,
             left_ones: top.left_ones - child.left_ones,
-            balance: stored(turned.lowered),
+            balance: lowered,
         },
         risen: Fork {
             left: child.left,
             right: top.left,
             left_total: child.left_total,
             left_ones: child.left_ones,
-            balance: stored(turned.risen),
+            balance: risen,
         },
         change: turned.change,
     }
 }
 
-//    b              b
-//   / \            / \
-//  A   d     →    d   E
-//     / \        / \
-//    C   E      A   C
-fn left_forks(top: Fork, child: Fork) -> Forks
-    requires { ⌜ LeftForks top child ⌝ }
-    ensures { λ r. ⌜ ((t : LeftForks top child) → LeftOver r (t .b) (t .a) (t .c) (t .e)) ⌝ }
+// The number of a fork's child on the other side.
+fn far_child(fork: Fork, left: bool) -> u64
+    ensures { λ r. ⌜ r ≡ side left (fork .right) (fork .left) ⌝ }
 {
-    let turned = turned_left(signed(child.balance), signed(top.balance));
-    Forks {
-        lowered: Fork {
-            left: top.left,
-            right: child.left,
-            left_total: top.left_total,
-            left_ones: top.left_ones,
-            balance: stored(turned.lowered),
-        },
-        risen: Fork {
-            left: top.right,
-            right: child.right,
-            left_total: top.left_total + child.left_total,
-            left_ones: top.left_ones + child.left_ones,
-            balance: stored(turned.risen),
-        },
-        change: turned.change,
+    if left {
+        return fork.right;
     }
+    fork.left
 }
 
-// Puts the forks after a turn of the fork at n: the risen child's number takes the lowered node.
-fn put_forks(nodes: &mut [u64], n: u64, child: u64, forks: Forks)
-    ensures { λ _. ⌜ now (nodes .exit) ≡ put (put (now (nodes .entry)) child (fork-cell (forks .lowered))) n (fork-cell (forks .risen)) ⌝ }
-{
-    let lowered = forks.lowered;
-    let risen = forks.risen;
-    set_fork(nodes, child, lowered);
-    set_fork(nodes, n, risen);
-}
-
-// Says by how much the whole has grown in height, as does its mirror image.
-fn turn_right(nodes: &mut [u64], n: u64) -> i64
-    requires { ⌜ TurnsRight (now nodes) n ⌝ }
-    ensures { λ r. ⌜ ((t : TurnsRight (now (nodes .entry)) n) → Moved (now (nodes .entry)) (now (nodes .exit)) r (fork n (fork (t .b) (t .a) (t .c)) (t .e)) (turn-right (fork n (fork (t .b) (t .a) (t .c)) (t .e)))) ⌝ }
+// Turns the tree at n to one side, and says by how much it has grown in height.
+fn turn(nodes: &mut [u64], n: u64, left: bool) -> i64
+    requires { ⌜ Turns left (now nodes) n ⌝ }
+    ensures { λ r. ⌜ ((t : Turns left (now (nodes .entry)) n)
+        → Moved (now (nodes .entry)) (now (nodes .exit)) r (unturned left n t) (turn left (unturned left n t))) ⌝ }
 {
     let top = fork_at(nodes, n);
-    let child = fork_at(nodes, top.left);
-    let forks = right_forks(top, child);
-    put_forks(nodes, n, top.left, forks);
+    let b = far_child(top, left);
+    let child = fork_at(nodes, b);
+    let forks = new_forks(top, child, left);
+    set_fork(nodes, b, forks.lowered);
+    set_fork(nodes, n, forks.risen);
     forks.change
 }
 
-fn turn_left(nodes: &mut [u64], n: u64) -> i64
-    requires { ⌜ TurnsLeft (now nodes) n ⌝ }
-    ensures { λ r. ⌜ ((t : TurnsLeft (now (nodes .entry)) n) → Moved (now (nodes .entry)) (now (nodes .exit)) r (fork n (t .a) (fork (t .b) (t .c) (t .e))) (turn-left (fork n (t .a) (fork (t .b) (t .c) (t .e))))) ⌝ }
-{
-    let top = fork_at(nodes, n);
-    let child = fork_at(nodes, top.right);
-    let forks = left_forks(top, child);
-    put_forks(nodes, n, top.right, forks);
-    forks.change
-}
-
-// Turns a left child that leans right to the left; a leaf does not lean. Its height stays.
-fn lean_left(nodes: &mut [u64], n: u64)
+// Turns a child on one side to that side where it leans to the other; a leaf does not lean. Its height stays.
+fn lean(nodes: &mut [u64], n: u64, left: bool)
     requires { ⌜ ((t : Tree) × Child (now nodes) n t) ⌝ }
-    ensures { λ _. ⌜ ((t : Tree) → Child (now (nodes .entry)) n t → Edited (now (nodes .entry)) (now (nodes .exit)) (numbers t) (leaning-left t)) ⌝ }
+    ensures { λ _. ⌜ ((t : Tree) → Child (now (nodes .entry)) n t
+        → Edited (now (nodes .entry)) (now (nodes .exit)) (numbers t) (leaning left t)) ⌝ }
 {
-    let fork = fork_at(nodes, n);
-    if signed(fork.balance) == 1 {
-        turn_left(nodes, n);
-    }
-}
-
-// The mirror image.
-fn lean_right(nodes: &mut [u64], n: u64)
-    requires { ⌜ ((t : Tree) × Child (now nodes) n t) ⌝ }
-    ensures { λ _. ⌜ ((t : Tree) → Child (now (nodes .entry)) n t → Edited (now (nodes .entry)) (now (nodes .exit)) (numbers t) (leaning-right t)) ⌝ }
-{
-    let fork = fork_at(nodes, n);
-    if signed(fork.balance) == -1 {
-        turn_right(nodes, n);
+    if seen(balance_at(nodes, n), left) == -1 {
+        turn(nodes, n, left);
     }
 }
 
 // Turns the fork at n where one child is two levels higher than the other, and says by how much it has grown in height.
 pub fn rebalance(nodes: &mut [u64], n: u64) -> i64
     requires { ⌜ ((l : Tree) × ((r : Tree) × Uneven (now nodes) n l r)) ⌝ }
-    ensures { λ g. ⌜ ((l : Tree) (r : Tree) → Uneven (now (nodes .entry)) n l r → Evened (now (nodes .entry)) (now (nodes .exit)) g n l r) ⌝ }
+    ensures { λ g. ⌜ ((l : Tree) (r : Tree) → Uneven (now (nodes .entry)) n l r
+        → Evened (now (nodes .entry)) (now (nodes .exit)) g n l r) ⌝ }
 {
     let fork = fork_at(nodes, n);
-    let balance = signed(fork.balance);
-    if balance == -2 {
-        lean_left(nodes, fork.left);
-        return turn_right(nodes, n);
-    }
+    let balance = seen(fork.balance, true);
     if balance == 2 {
-        lean_right(nodes, fork.right);
-        return turn_left(nodes, n);
+        lean(nodes, fork.left, true);
+        return turn(nodes, n, false);
+    }
+    if balance == -2 {
+        lean(nodes, fork.right, false);
+        return turn(nodes, n, true);
     }
     0
 }

@@ -28,8 +28,8 @@ use Rattle.pool.specs.Node.{nodes-in}
 use Rattle.pool.specs.Layout.{Laid, first-of}
 use Rattle.window.specs.Calls.{NoPool, BuildsTo}
 use Rattle.window.specs.Layout.{Counted, Stands, trailer-of}
-use Rattle.serve.specs.declared.answer.Answer.{Answer}
-use Rattle.serve.specs.declared.answer.Answer.the-variants.{Done, Full, WrongSize, TooLong}
+use Rattle.order.specs.declared.answer.Answer.{Answer}
+use Rattle.order.specs.declared.answer.Answer.the-variants.{Done, Full, WrongSize, TooLong}
 use Rattle.window.proofs.OneState.{counted-one, nodes-are, nodes-length, trailer-length}
 
 -- ---- the marks that are built
@@ -107,7 +107,7 @@ stands-with w six n p l fine least most e = record {
 }
 
 -- the same of a pool that was built
-pub stands-in : (w : List ℕ) (n : ℕ) (r : B.Built) (p : Pool) → Built.Stands w n r p → Sound n p → 1 ≤ n → n ≤ most-nodes
+pub stands-in : (w : List ℕ) (n : ℕ) (r : B.Built) (p : Pool) → Built.BuiltAs w n r p → Sound n p → 1 ≤ n → n ≤ most-nodes
     → Stands (w ++ r .root ∷ size (p .tree) ∷ r .chain .first ∷ r .chain .count ∷ n ∷ 0 ∷ []) n p
 unfolding trailer-of
 stands-in w n r p s fine least most =
@@ -117,7 +117,8 @@ stands-in w n r p s fine least most =
 -- a trailer put over all that stood behind the nodes
 pub put-behind : (w behind six : List ℕ) (a : ℕ) → length w ≡ a → putMid a (length (w ++ behind) - a) (w ++ behind) six ≡ w ++ six
 put-behind w behind six a e =
-    let rest : postOf a (length (w ++ behind) - a) (w ++ behind) ≡ [] = drop-of-length-le (drop a (w ++ behind)) {i = length (w ++ behind) - a} (omega (arith, length-drop a (w ++ behind))) in
+    let rest : postOf a (length (w ++ behind) - a) (w ++ behind) ≡ [] =
+    drop-of-length-le (drop a (w ++ behind)) {i = length (w ++ behind) - a} (omega (arith, length-drop a (w ++ behind))) in
     ap₂ _++_ (take-at w behind a e) (ap (_++_ six) rest ∙ append-nil six)
 
 -- what the tests have shown where a pool is built
@@ -128,7 +129,7 @@ pub record Fits (ws words : List ℕ) (len n : ℕ) : Type 0 where
 
 -- what building the tree leaves in the nodes
 abbrev pub Leaves : List ℕ → ℕ → ℕ → List ℕ → B.Built → Type 0
-Leaves words len n w r = (p : Pool) → Pool.build n (take len (marks-of words)) ≡ some p → Built.Stands w n r p
+Leaves words len n w r = (p : Pool) → Pool.build n (take len (marks-of words)) ≡ some p → Built.BuiltAs w n r p
 
 module _ {ws words : List ℕ} {len n : ℕ} (f : Fits ws words len n) where
   pub fits-room : Built.Room (take (n * 6) ws) words len
@@ -156,7 +157,8 @@ module _ {ws words : List ℕ} {len n : ℕ} (f : Fits ws words len n) where
 
     pub after-trailer : length (take (length (w ++ drop (n * 6) ws) - n * 6) (drop (n * 6) (w ++ drop (n * 6) ws))) ≡ 6
     after-trailer =
-        length-take-le (length (w ++ drop (n * 6) ws) - n * 6) (drop (n * 6) (w ++ drop (n * 6) ws)) (omega (arith, length-drop (n * 6) (w ++ drop (n * 6) ws)))
+        length-take-le (length (w ++ drop (n * 6) ws) - n * 6) (drop (n * 6) (w ++ drop (n * 6) ws))
+        (omega (arith, length-drop (n * 6) (w ++ drop (n * 6) ws)))
         ∙ omega (arith, after-length)
 
     pub after-stands : (six : List ℕ) → six ≡ r .root ∷ len ∷ r .chain .first ∷ r .chain .count ∷ n ∷ 0 ∷ []
@@ -165,4 +167,5 @@ module _ {ws words : List ℕ} {len n : ℕ} (f : Fits ws words len n) where
         done-built ws words len n (f .counted) _ (f .given) (f .enough)
         (λ p b.
         let fine : Sound n p × (size (p .tree) ≡ len) = built-sound words len (f .given) n p b in
-        rw (put-behind w (drop (n * 6) ws) six (n * 6) nodes-left, e, sym (fine .1)) (stands-in w n r p (left p b) (fine .0) (f .counted .some) (f .counted .most)))
+        rw (put-behind w (drop (n * 6) ws) six (n * 6) nodes-left, e, sym (fine .1))
+        (stands-in w n r p (left p b) (fine .0) (f .counted .some) (f .counted .most)))

@@ -16,7 +16,7 @@ use Rattle.pool.specs.Layout.{Laid, Rooted, first-of}
 use Rattle.pool.specs.Node.{nodes-in}
 use Rattle.pool.proofs.Cells.{nodes-in-of}
 use Rattle.pool.proofs.Standing.{holds-one, chained-one}
-use Rattle.sound.specs.Judged.{Right}
+use Rattle.sound.specs.Judged.{Correct}
 use Rattle.window.specs.Layout.{Counted, Stands, WellFormed, trailer-of, trailer-in}
 use Rattle.window.specs.declared.trailer.Trailer.{Trailer}
 
@@ -53,9 +53,9 @@ module _ (ws : List ℕ) (n : ℕ) (c : Counted ws n) where
     abbrev told : Trailer
     told = trailer-in (drop (n * 6) ws)
 
-    pub right-stands : told .nodes ≡ n → told .last ≡ 0 → Right (take (n * 6) ws) (told .root) (told .length) (told .chain) p → Stands ws n p
+    pub correct-stands : told .nodes ≡ n → told .last ≡ 0 → Correct (take (n * 6) ws) (told .root) (told .length) (told .chain) p → Stands ws n p
     unfolding trailer-of
-    right-stands e l r = record {
+    correct-stands e l r = record {
       counted = c;
       nodes = rw nodes-are at (r .laid);
       trailer =
@@ -80,9 +80,9 @@ module _ (ws : List ℕ) (n : ℕ) (c : Counted ws n) where
     unfolding trailer-of
     stands-root s = rw (s .trailer)
 
-    pub stands-right : Stands ws n p → Right (take (n * 6) ws) (told .root) (told .length) (told .chain) p
+    pub stands-correct : Stands ws n p → Correct (take (n * 6) ws) (told .root) (told .length) (told .chain) p
     unfolding trailer-of
-    stands-right s = record {
+    stands-correct s = record {
       laid = rw nodes-are (s .nodes);
       sound = rw nodes-are (s .sound);
       rooted = sym (stands-root s);
@@ -110,7 +110,8 @@ one-state ws n m p q s t′ =
     holds-one (take (n * 6) ws) (p .tree) (q .tree) (whole-sized (p .tree) (s .sound .whole)) (whole-sized (q .tree) (t .sound .whole))
     (ap (λ (v : List ℕ). getD v 0 0) same) (ap (λ (v : List ℕ). getD v 1 0) same) (s .nodes .tree) (t .nodes .tree) in
     let free : p .free ≡ q .free =
-    chained-one (take (n * 6) ws) n (p .free) (q .free) (ap (λ (v : List ℕ). getD v 2 0) same) (ap (λ (v : List ℕ). getD v 3 0) same) (s .nodes .chain)
+    chained-one (take (n * 6) ws) n (p .free) (q .free) (ap (λ (v : List ℕ). getD v 2 0) same) (ap (λ (v : List ℕ). getD v 3 0) same)
+    (s .nodes .chain)
     (t .nodes .chain) in
     λ i. record { tree = tree i; free = free i }
 
@@ -119,5 +120,6 @@ pub well-at : (ws : List ℕ) (n : ℕ) → Counted ws n → WellFormed ws → (
 well-at ws n c x = (x .1, rw (sym (counted-one ws n (x .0) c (x .2 .counted))) at (x .2))
 
 -- six stores
-pub set-six : (ws : List ℕ) (a b c d f g : ℕ) → length ws ≡ 6 → set (set (set (set (set (set ws 0 a) 1 b) 2 c) 3 d) 4 f) 5 g ≡ a ∷ b ∷ c ∷ d ∷ f ∷ g ∷ []
+pub set-six : (ws : List ℕ) (a b c d f g : ℕ) → length ws ≡ 6
+    → set (set (set (set (set (set ws 0 a) 1 b) 2 c) 3 d) 4 f) 5 g ≡ a ∷ b ∷ c ∷ d ∷ f ∷ g ∷ []
 set-six ws a b c d f g e = rw (six ws e)

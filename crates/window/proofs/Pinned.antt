@@ -3,7 +3,7 @@
 --
 -- A contract has a case for each thing that the words can be: no pool's, a damaged pool's, or a pool that stands. That one of them is the case
 -- is known doubly negated, which is enough, as answers and words can be compared.
-use Prim.Native.Nat.{ℕ, zero, suc, _-_, _*_, _%_, _≤_, _<_}
+use Prim.Native.Nat.{ℕ, zero, suc, _-_, _*_, _≤_, _<_}
 use native.Mathlib.Omega.{arith}
 use mathlib.Core.Path.{_≡_, refl, sym, ap, ap₂, _∙_}
 use mathlib.Core.Bool.{Bool, true, false}
@@ -11,28 +11,35 @@ use mathlib.Core.List.{List, [], _∷_, _++_}
 use mathlib.Core.Option.{Option, none, some}
 use denote.Ref.{now}
 use lib.ListN.{length, take, drop, getD, take-append-drop}
+use Rattle.model.specs.Contract.{Pinned}
 use Rattle.model.specs.Pool as Pool
 use Rattle.model.specs.Pool.{Pool}
 use Rattle.model.specs.Tree.{size}
 use Rattle.model.specs.Word.{marks-of, words-for}
 use Rattle.model.proofs.Cases.{by-ltb}
 use Rattle.build.proofs.OnePool.{laid-one}
-use Rattle.serve.specs.Answer.{code, value}
-use Rattle.window.specs.Calls.{NoPool, Damaged, Checked, BuildsTo, Valued, Unchanged, Ran, order-count}
+use Rattle.order.specs.Answer.{code, value}
+use Rattle.window.specs.Calls.{NoPool, Damaged, Checked, BuildsTo, Judges, Measures, Valued}
 use Rattle.window.specs.Layout.{Counted, Stands, WellFormed}
-use Rattle.window.specs.Orders.{orders-of, after-all}
-use Rattle.serve.specs.declared.answer.Answer.{Answer}
-use Rattle.serve.specs.declared.answer.Answer.the-variants.{Done, OutOfRange, NoZeroth, TooFew, Full, Malformed, WrongSize, NotSound, ShortOutput, PartOrder, TooLong, LeafLacks}
+use Rattle.order.specs.declared.answer.Answer.{Answer}
+use Rattle.order.specs.declared.answer.Answer.the-variants.{Done, OutOfRange, NoZeroth, TooFew, Full, Malformed, WrongSize, NotSound, ShortOutput, PartOrder, TooLong, LeafLacks}
+use Rattle.window.specs.declared.calls.Judgement.{Judgement}
+use Rattle.window.specs.declared.calls.Judgement.the-variants.{Stands as Stands′, Damaged as Damaged′}
+use Rattle.window.proofs.OneState.{counted-one}
 use Rattle.window.proofs.calls.build.Reads as build
 use Rattle.window.proofs.calls.check.Reads as check
+use Rattle.window.proofs.calls.judged.Reads as judged
+use Rattle.window.proofs.calls.nodes_of.Reads as nodes-of
 use Rattle.window.proofs.calls.values.Reads as values
-use Rattle.window.proofs.running.run.Reads as run
+use Rattle.window.proofs.trailer.set_trailer.Reads as set-trailer
+use Rattle.window.proofs.trailer.trailer_of.Reads as trailer-of
 
 -- ---- answers and words can be compared
 
 -- the answer of a number and a value
 answer-of : ℕ → ℕ → Answer
-answer-of n v = getD (Done v ∷ OutOfRange ∷ NoZeroth ∷ TooFew ∷ Full ∷ Malformed ∷ WrongSize ∷ NotSound ∷ ShortOutput ∷ PartOrder ∷ TooLong ∷ []) n LeafLacks
+answer-of n v = getD (Done v ∷ OutOfRange ∷ NoZeroth ∷ TooFew ∷ Full ∷ Malformed ∷ WrongSize ∷ NotSound ∷ ShortOutput ∷ PartOrder ∷ TooLong ∷
+    []) n LeafLacks
 
 answer-is : (a : Answer) → answer-of (code a) (value a) ≡ a
 unfolding answer-of code value
@@ -61,7 +68,7 @@ pub number-stable : (m n : ℕ) → Likely (m ≡ n) → m ≡ n
 number-stable m n h =
     by-ltb m n (λ _ l. absurd (h (λ e. omega arith))) (λ _ l. by-ltb n m (λ _ k. absurd (h (λ e. omega arith))) (λ _ k. omega arith))
 
-answer-stable : (a b : Answer) → Likely (a ≡ b) → a ≡ b
+pub answer-stable : (a b : Answer) → Likely (a ≡ b) → a ≡ b
 answer-stable a b h =
     one-answer a b (number-stable (code a) (code b) (λ n. h (λ e. n (ap code e)))) (number-stable (value a) (value b) (λ n. h (λ e. n (ap value e))))
 
@@ -94,7 +101,8 @@ cases ws absent damaged stands h =
 -- a pool stands in one list of words only
 pub one-layout : (ws vs : List ℕ) (n : ℕ) (p : Pool) → Stands ws n p → Stands vs n p → ws ≡ vs
 one-layout ws vs n p s t =
-    sym (take-append-drop (n * 6) ws) ∙ ap₂ _++_ (laid-one (s .nodes) (t .nodes) (s .sound .each)) (s .trailer ∙ sym (t .trailer)) ∙ take-append-drop (n * 6) vs
+    sym (take-append-drop (n * 6) ws) ∙ ap₂ _++_ (laid-one (s .nodes) (t .nodes) (s .sound .each)) (s .trailer ∙ sym (t .trailer))
+    ∙ take-append-drop (n * 6) vs
 
 -- ---- the calls
 
@@ -108,9 +116,11 @@ valued-one ws out a b o u p q =
     same-stable a b o u
     (cases ws (λ d. both (p .no-pool d) (q .no-pool d)) (λ d. both (p .damaged d) (q .damaged d))
     (λ n s t.
-    by-ltb (length out) (words-for (size (s .tree))) (λ _ h. both (p .short n s t h) (q .short n s t h)) (λ _ h. both (p .written n s t h) (q .written n s t h))))
+    by-ltb (length out) (words-for (size (s .tree))) (λ _ h. both (p .short n s t h) (q .short n s t h))
+    (λ _ h. both (p .written n s t h) (q .written n s t h))))
 
-pub builds-one : (ws words : List ℕ) (len : ℕ) (a b : Answer) (vs us : List ℕ) → BuildsTo ws words len a vs → BuildsTo ws words len b us → Same a vs b us
+pub builds-one : (ws words : List ℕ) (len : ℕ) (a b : Answer) (vs us : List ℕ) → BuildsTo ws words len a vs → BuildsTo ws words len b us
+    → Same a vs b us
 builds-one ws words len a b vs us p q =
     same-stable a b vs us
     (sized ws (λ d. both (p .no-pool d) (q .no-pool d))
@@ -125,44 +135,40 @@ builds-one ws words len a b vs us p q =
         let y = q .built n s c h e in
         (x .0 ∙ sym (y .0), one-layout vs us n s (x .1) (y .1))
 
--- two answers that leave everything as it was
-alike : {ws vs us out o u : List ℕ} {a b c : Answer} → (a ≡ c) × Unchanged ws vs out o → (b ≡ c) × Unchanged ws us out u → (a ≡ b) × (vs ≡ us) × (o ≡ u)
-alike p q = (p .0 ∙ sym (q .0), p .1 .pool ∙ sym (q .1 .pool), p .1 .output ∙ sym (q .1 .output))
+-- how many nodes there are
+measured-one : (ws : List ℕ) (m n : ℕ) → Measures ws m → Measures ws n → m ≡ n
+measured-one ws m n p q =
+    by-ltb 0 m
+    (λ _ h. by-ltb 0 n (λ _ k. counted-one ws m n (p .yes h) (q .yes k)) (λ _ k. absurd (q .no (omega arith) m (p .yes h))))
+    (λ _ h. by-ltb 0 n (λ _ k. absurd (p .no (omega arith) n (q .yes k))) (λ _ k. omega arith))
 
-pub ran-one : (ws orders out : List ℕ) (a b : Answer) (vs us o u : List ℕ) → Ran ws orders out a vs o → Ran ws orders out b us u
-    → (a ≡ b) × (vs ≡ us) × (o ≡ u)
-ran-one ws orders out a b vs us o u p q =
-    let likely : Likely ((a ≡ b) × (vs ≡ us) × (o ≡ u)) =
-    cases ws (λ d. alike (p .no-pool d) (q .no-pool d))
-    (λ d. past (d .count .0) (d .count .1) (λ whole room. alike (p .damaged d whole room) (q .damaged d whole room)))
-    (λ n s t.
-    past n (t .counted)
-    (λ whole room.
-    let x = p .served n s t whole room in
-    let y = q .served n s t whole room in
-    (x .0 ∙ sym (y .0), one-layout vs us n (after-all (orders-of orders) s) (x .1) (y .1), x .2 ∙ sym (y .2)))) in
-    (answer-stable a b (λ h. likely (λ e. h (e .0))), words-stable vs us (λ h. likely (λ e. h (e .1))), words-stable o u (λ h. likely (λ e. h (e .2))))
-  where
-    -- the tests of the orders and of the output
-    past : (n : ℕ) → Counted ws n → (length orders % 3 ≡ 0 → 2 * order-count orders ≤ length out → (a ≡ b) × (vs ≡ us) × (o ≡ u))
-        → (a ≡ b) × (vs ≡ us) × (o ≡ u)
-    past n c f =
-        by-ltb 0 (length orders % 3) (λ _ h. alike (p .part n c (λ e. omega arith)) (q .part n c (λ e. omega arith)))
-        (λ _ h.
-        let whole : length orders % 3 ≡ 0 = omega arith in
-        by-ltb (length out) (2 * order-count orders) (λ _ k. alike (p .short n c whole k) (q .short n c whole k)) (λ _ k. f whole k))
+judged-one : (ws : List ℕ) (n : ℕ) (a b : Judgement) → Judges ws n a → Judges ws n b → a ≡ b
+judged-one ws n (Stands′ t) (Stands′ u) p q = ap Stands′ (p .2 ∙ sym (q .2))
+judged-one ws n (Stands′ t) Damaged′ p q = absurd (q (n, p .0, p .1))
+judged-one ws n Damaged′ (Stands′ u) p q = absurd (p (n, q .0, q .1))
+judged-one ws n Damaged′ Damaged′ p q = refl
 
 -- ---- as the source has them
 
-pub check-pinned : (κs : _) (a : _) (r r′ : _) (w w′ : _) → check.Post κs a r w → check.Post κs a r′ w′ → r ≡ r′
+pub nodes-of-pinned : Pinned nodes-of.Post
+nodes-of-pinned κs a r r′ w w′ p q = measured-one _ r r′ p q
+
+pub judged-pinned : Pinned judged.Post
+judged-pinned κs a r r′ w w′ p q = judged-one _ _ r r′ p q
+
+pub trailer-of-pinned : Pinned trailer-of.Post
+trailer-of-pinned κs a r r′ w w′ p q = p ∙ sym q
+
+pub set-trailer-pinned : (κs : _) (a : _) (r r′ : _) (w w′ : _) → set-trailer.Post κs a r w → set-trailer.Post κs a r′ w′
+    → now (w .0) ≡ now (w′ .0)
+set-trailer-pinned κs a r r′ w w′ p q = p ∙ sym q
+
+pub check-pinned : Pinned check.Post
 check-pinned κs a r r′ w w′ p q = checked-one _ r r′ p q
 
 pub build-pinned : (κs : _) (a : _) (r r′ : _) (w w′ : _) → build.Post κs a r w → build.Post κs a r′ w′ → (r ≡ r′) × (now (w .0) ≡ now (w′ .0))
 build-pinned κs a r r′ w w′ p q = builds-one _ _ _ r r′ _ _ p q
 
-pub values-pinned : (κs : _) (a : _) (r r′ : _) (w w′ : _) → values.Post κs a r w → values.Post κs a r′ w′ → (r ≡ r′) × (now (w .1 .0) ≡ now (w′ .1 .0))
+pub values-pinned : (κs : _) (a : _) (r r′ : _) (w w′ : _) → values.Post κs a r w → values.Post κs a r′ w′
+    → (r ≡ r′) × (now (w .1 .0) ≡ now (w′ .1 .0))
 values-pinned κs a r r′ w w′ p q = valued-one _ _ r r′ _ _ p q
-
-pub run-pinned : (κs : _) (a : _) (r r′ : _) (w w′ : _) → run.Post κs a r w → run.Post κs a r′ w′
-    → (r ≡ r′) × (now (w .0) ≡ now (w′ .0)) × (now (w .1 .1 .0) ≡ now (w′ .1 .1 .0))
-run-pinned κs a r r′ w w′ p q = ran-one _ _ _ r r′ _ _ _ _ p q

@@ -3,23 +3,34 @@
 use Prim.Native.Nat.{ℕ, _*_, _≤_, _<_}
 use native.Mathlib.Omega.{arith}
 use mathlib.Core.Path.{_≡_, refl, sym, ap, _∙_}
+use mathlib.Core.Bool.{Bool, false}
 use mathlib.Core.List.{List, _++_}
 use lib.ListN.{length, drop}
 use Rattle.model.specs.Pool.{Pool}
+use Rattle.model.specs.Says.{Says}
 use Rattle.model.specs.Tree.{marks, size}
 use Rattle.model.specs.Word.{words-for, words-of}
 use Rattle.window.specs.Calls.{NoPool, Damaged, Checked, Valued}
 use Rattle.window.specs.Layout.{Counted, Stands, WellFormed}
-use Rattle.serve.specs.declared.answer.Answer.{Answer}
-use Rattle.serve.specs.declared.answer.Answer.the-variants.{Done, WrongSize, NotSound, ShortOutput}
+use Rattle.order.specs.declared.answer.Answer.{Answer}
+use Rattle.order.specs.declared.answer.Answer.the-variants.{Done, WrongSize, NotSound, ShortOutput}
 use Rattle.window.proofs.OneState.{one-state}
+
+-- what is answered no does not hold
+pub says-not : {P : Type 0} {r : Bool} → Says P r → r ≡ false → P → ⊥
+says-not s e p = let yes = s .no p in let never : _≡_ {A = ℕ} 0 1 = cc in omega arith
 
 module _ (ws : List ℕ) where
   -- ---- no pool has so many words
 
   module _ (none : NoPool ws) where
     pub no-checked : Checked ws WrongSize
-    no-checked = record { no-pool = λ _. refl; damaged = λ d. absurd (none (d .count .0) (d .count .1)); sound = λ n p s. absurd (none n (s .counted)) }
+    no-checked = record {
+      no-pool =
+          λ _. refl;
+      damaged = λ d. absurd (none (d .count .0) (d .count .1));
+      sound = λ n p s. absurd (none n (s .counted));
+    }
 
     pub no-valued : (out : List ℕ) → Valued ws out WrongSize out
     no-valued out = record {

@@ -1,7 +1,6 @@
--- What the calls answer and leave, for all words, by the scope's sequence of tests.
-use Prim.Native.Nat.{ℕ, _*_, _/_, _%_, _≤_, _<_}
+-- What the calls answer and leave, for all words, by each call's sequence of tests.
+use Prim.Native.Nat.{ℕ, _*_, _≤_, _<_}
 use mathlib.Core.Path.{_≡_}
-use mathlib.Core.Bool.{Bool, true, false}
 use mathlib.Core.List.{List, _++_}
 use mathlib.Core.Option.{Option, none, some}
 use lib.ListN.{length, take, drop}
@@ -10,11 +9,10 @@ use Rattle.model.specs.Pool.{Pool}
 use Rattle.model.specs.Tree.{marks, size}
 use Rattle.model.specs.Word.{marks-of, words-of, words-for}
 use Rattle.window.specs.Layout.{Counted, Stands, WellFormed, trailer-in}
-use Rattle.window.specs.Orders.{orders-of, answers, after-all, answer-words}
 use Rattle.window.specs.declared.calls.Judgement.{Judgement}
 use Rattle.window.specs.declared.calls.Judgement.the-variants.{Stands as Stands′, Damaged as Damaged′}
-use Rattle.serve.specs.declared.answer.Answer.{Answer}
-use Rattle.serve.specs.declared.answer.Answer.the-variants.{Done, Full, WrongSize, NotSound, ShortOutput, PartOrder, TooLong}
+use Rattle.order.specs.declared.answer.Answer.{Answer}
+use Rattle.order.specs.declared.answer.Answer.the-variants.{Done, Full, WrongSize, NotSound, ShortOutput, TooLong}
 
 -- no pool has so many words
 abbrev pub NoPool : List ℕ → Type 0
@@ -35,11 +33,6 @@ abbrev pub Judges : List ℕ → ℕ → Judgement → Type 0
 Judges ws n (Stands′ t) = (p : Pool) × Stands ws n p × (t ≡ trailer-in (drop (n * 6) ws))
 Judges ws n Damaged′ = WellFormed ws → ⊥
 
--- the answer to a question is yes exactly where it holds
-pub record Says (r : Bool) (P : Type 0) : Type 0 where
-  pub yes : r ≡ true → P
-  pub no : r ≡ false → P → ⊥
-
 -- ---- check: its tests are 6, 7
 
 pub record Checked (ws : List ℕ) (r : Answer) : Type 0 where
@@ -53,8 +46,10 @@ pub record Checked (ws : List ℕ) (r : Answer) : Type 0 where
 pub record BuildsTo (ws : List ℕ) (words : List ℕ) (len : ℕ) (r : Answer) (ws′ : List ℕ) : Type 0 where
   pub no-pool : NoPool ws → (r ≡ WrongSize) × (ws′ ≡ ws)
   pub too-long : (n : ℕ) → Counted ws n → 64 * length words < len → (r ≡ TooLong) × (ws′ ≡ ws)
-  pub full : (n : ℕ) → Counted ws n → len ≤ 64 * length words → Pool.build n (take len (marks-of words)) ≡ none → (r ≡ Full) × (ws′ ≡ ws)
-  pub built : (n : ℕ) (p : Pool) → Counted ws n → len ≤ 64 * length words → Pool.build n (take len (marks-of words)) ≡ some p
+  pub full : (n : ℕ) → Counted ws n → len ≤ 64 * length words → Pool.build n (take len (marks-of words)) ≡ none
+      → (r ≡ Full) × (ws′ ≡ ws)
+  pub built : (n : ℕ) (p : Pool) → Counted ws n → len ≤ 64 * length words
+      → Pool.build n (take len (marks-of words)) ≡ some p
       → (r ≡ Done len) × Stands ws′ n p
 
 -- ---- values: its tests are 6, 7, 8
@@ -63,26 +58,8 @@ pub record BuildsTo (ws : List ℕ) (words : List ℕ) (len : ℕ) (r : Answer) 
 pub record Valued (ws : List ℕ) (out : List ℕ) (r : Answer) (out′ : List ℕ) : Type 0 where
   pub no-pool : NoPool ws → (r ≡ WrongSize) × (out′ ≡ out)
   pub damaged : Damaged ws → (r ≡ NotSound) × (out′ ≡ out)
-  pub short : (n : ℕ) (p : Pool) → Stands ws n p → length out < words-for (size (p .tree)) → (r ≡ ShortOutput) × (out′ ≡ out)
+  pub short : (n : ℕ) (p : Pool) → Stands ws n p → length out < words-for (size (p .tree))
+      → (r ≡ ShortOutput) × (out′ ≡ out)
   pub written : (n : ℕ) (p : Pool) → Stands ws n p → words-for (size (p .tree)) ≤ length out
-      → (r ≡ Done (words-for (size (p .tree)))) × (out′ ≡ words-of (words-for (size (p .tree))) (marks (p .tree)) ++ drop (words-for (size (p .tree))) out)
-
--- ---- run: its tests are 6, 9, 8, 7
-
--- nothing is changed
-pub record Unchanged (ws ws′ out out′ : List ℕ) : Type 0 where
-  pub pool : ws′ ≡ ws
-  pub output : out′ ≡ out
-
--- orders are three words each, and their answers two
-abbrev pub order-count : List ℕ → ℕ
-order-count orders = length orders / 3
-
-pub record Ran (ws orders out : List ℕ) (r : Answer) (ws′ out′ : List ℕ) : Type 0 where
-  pub no-pool : NoPool ws → (r ≡ WrongSize) × Unchanged ws ws′ out out′
-  pub part : (n : ℕ) → Counted ws n → (length orders % 3 ≡ 0 → ⊥) → (r ≡ PartOrder) × Unchanged ws ws′ out out′
-  pub short : (n : ℕ) → Counted ws n → length orders % 3 ≡ 0 → length out < 2 * order-count orders → (r ≡ ShortOutput) × Unchanged ws ws′ out out′
-  pub damaged : Damaged ws → length orders % 3 ≡ 0 → 2 * order-count orders ≤ length out → (r ≡ NotSound) × Unchanged ws ws′ out out′
-  pub served : (n : ℕ) (p : Pool) → Stands ws n p → length orders % 3 ≡ 0 → 2 * order-count orders ≤ length out
-      → (r ≡ Done (order-count orders)) × Stands ws′ n (after-all (orders-of orders) p)
-      × (out′ ≡ answer-words (answers (orders-of orders) p) ++ drop (2 * order-count orders) out)
+      → (r ≡ Done (words-for (size (p .tree))))
+      × (out′ ≡ words-of (words-for (size (p .tree))) (marks (p .tree)) ++ drop (words-for (size (p .tree))) out)

@@ -1,13 +1,14 @@
-// The calls, each with its tests in the scope's sequence. A refusal leaves every lent word as it was.
+// The calls, each with its tests in their sequence. A refusal leaves every lent word as it was.
 use crate::trailer::Trailer;
 use crate::trailer::set_trailer;
 use crate::trailer::trailer_of;
-use serve::Answer;
+use order::Answer;
 use sound::sound;
-use tree::words_for;
+use values::words_for;
 ghost use Prim.Native.Nat.{_*_, _<_};
 ghost use lib.ListN as ListN;
-ghost use Rattle.window.specs.Calls.{BuildsTo, Checked, Judges, Measures, Says, Valued};
+ghost use Rattle.model.specs.Says.{Says};
+ghost use Rattle.window.specs.Calls.{BuildsTo, Checked, Judges, Measures, Valued};
 ghost use Rattle.window.specs.Layout.{Counted};
 
 // The words of a node, and of the trailer.
@@ -92,7 +93,7 @@ pub fn values(pool: &[u64], out: &mut [u64]) -> Answer
                 return Answer::ShortOutput;
             }
             let end = n * NODE_WORDS;
-            tree::values(&pool[..end], trailer.root, trailer.length, out);
+            values::values(&pool[..end], trailer.root, trailer.length, out);
             Answer::Done(words)
         }
         Judgement::Damaged => Answer::NotSound,
@@ -101,7 +102,7 @@ pub fn values(pool: &[u64], out: &mut [u64]) -> Answer
 
 // Whether some words have fewer than so many bits.
 fn too_few(words: &[u64], length: u64) -> bool
-    ensures { λ r. ⌜ Says r (64 * ListN.length (now (words .entry)) < length) ⌝ }
+    ensures { λ r. ⌜ Says (64 * ListN.length (now (words .entry)) < length) r ⌝ }
 {
     let have = words.len() as u64;
     let whole = length / WORD_BITS;

@@ -37,7 +37,9 @@ pub fn trailer_of(words: &[u64]) -> Trailer
 // Puts a trailer into six words.
 pub fn set_trailer(words: &mut [u64], trailer: Trailer)
     requires { ⌜ length (now words) ≡ 6 ⌝ }
-    ensures { λ _. ⌜ now (words .exit) ≡ trailer .root ∷ trailer .length ∷ trailer .chain .first ∷ trailer .chain .count ∷ trailer .nodes ∷ trailer .last ∷ [] ⌝ }
+    ensures { λ _. ⌜ now (words .exit)
+        ≡ trailer .root ∷ trailer .length ∷ trailer .chain .first ∷ trailer .chain .count ∷ trailer .nodes
+        ∷ trailer .last ∷ [] ⌝ }
 {
     let chain = trailer.chain;
     words[0] = trailer.root;

@@ -1,13 +1,13 @@
-// An answer of the window as two words, the scope's number and its value.
+// An answer of the window as two words, its number and its value.
 ghost use Prim.Native.Nat.{_+_, _≤_};
 ghost use lib.ListN as ListN;
 use crate::bytes::put_word;
-use serve::Answer;
+use order::Answer;
 
 pub fn put_answer(told: &mut [u8], at: usize, answer: Answer)
     requires { ⌜ at + 16 ≤ ListN.length (now told) ⌝ }
 {
-    let words = serve::told(answer);
+    let words = order::as_words(answer);
     put_word(told, at, words.code);
     put_word(told, at + 8, words.value);
 }

@@ -17,6 +17,7 @@
 // stdin and stdout beside src/ are what `window_vectors sample stdin stdout` of the folder oracle makes.
 ghost use Prim.Native.Nat.{_+_, _*_, _≤_};
 ghost use lib.ListN as ListN;
+ghost use Rattle.window_replay.specs.Lists.{Shown};
 
 mod answers;
 mod bytes;
@@ -25,7 +26,7 @@ use answers::put_answer;
 use bytes::put_words;
 use bytes::read_words;
 use bytes::word_at;
-use serve::Answer;
+use order::Answer;
 
 const MOST_POOL: usize = 6150;
 
@@ -110,7 +111,7 @@ fn serve(
     out: &mut [u64],
 ) -> Calls {
     let built = window::build(pool, words, r.length);
-    let ran = window::run(pool, orders, replies);
+    let ran = run::run(pool, orders, replies);
     set_word(pool, r.at, r.word);
     let checked = window::check(pool);
     let valued = window::values(pool, out);
@@ -146,31 +147,25 @@ fn read_lists(
     true
 }
 
-// Puts the lists of an answer behind its first eight words, and says how many bytes it then has.
-fn put_lists(
-    told: &mut [u8],
-    replies: &[u64],
+// How many words of the answers, of the output and of the pool an answer shows.
+struct Sizes {
     two: usize,
-    out: &[u64],
     room: usize,
-    pool: &[u64],
     shown: usize,
-) -> usize
-    requires { ⌜ two ≤ 8192 ⌝ }
-    requires { ⌜ room ≤ 520 ⌝ }
-    requires { ⌜ shown ≤ 6150 ⌝ }
-    requires { ⌜ 8192 ≤ ListN.length (now replies) ⌝ }
-    requires { ⌜ 520 ≤ ListN.length (now out) ⌝ }
-    requires { ⌜ 6150 ≤ ListN.length (now pool) ⌝ }
+}
+
+// Puts the lists of an answer behind its first eight words, and says how many bytes it then has.
+fn put_lists(told: &mut [u8], replies: &[u64], out: &[u64], pool: &[u64], sizes: Sizes) -> usize
+    requires { ⌜ Shown sizes (now replies) (now out) (now pool) ⌝ }
     requires { ⌜ 118960 ≤ ListN.length (now told) ⌝ }
     ensures { λ r. ⌜ r ≤ 118960 ⌝ }
 {
-    let after_replies = 64 + two * 8;
-    let after_out = after_replies + room * 8;
-    put_words(told, 64, replies, two);
-    put_words(told, after_replies, out, room);
-    put_words(told, after_out, pool, shown);
-    after_out + shown * 8
+    let after_replies = 64 + sizes.two * 8;
+    let after_out = after_replies + sizes.room * 8;
+    put_words(told, 64, replies, sizes.two);
+    put_words(told, after_replies, out, sizes.room);
+    put_words(told, after_out, pool, sizes.shown);
+    after_out + sizes.shown * 8
 }
 
 // Lends the parts of the pool, of the lists and of the output that a request names.
@@ -203,25 +198,12 @@ fn serve_parts(
 }
 
 // Writes an answer, and says whether that was done.
-fn tell(
-    calls: Calls,
-    replies: &[u64],
-    two: usize,
-    out: &[u64],
-    room: usize,
-    pool: &[u64],
-    shown: usize,
-) -> bool
-    requires { ⌜ two ≤ 8192 ⌝ }
-    requires { ⌜ room ≤ 520 ⌝ }
-    requires { ⌜ shown ≤ 6150 ⌝ }
-    requires { ⌜ 8192 ≤ ListN.length (now replies) ⌝ }
-    requires { ⌜ 520 ≤ ListN.length (now out) ⌝ }
-    requires { ⌜ 6150 ≤ ListN.length (now pool) ⌝ }
+fn tell(calls: Calls, replies: &[u64], out: &[u64], pool: &[u64], sizes: Sizes) -> bool
+    requires { ⌜ Shown sizes (now replies) (now out) (now pool) ⌝ }
 {
     let mut told = [0u8; TOLD];
     put_calls(&mut told, calls);
-    let end = put_lists(&mut told, replies, two, out, room, pool, shown);
+    let end = put_lists(&mut told, replies, out, pool, sizes);
     io::write_all(libc::STDOUT_FILENO, &told[..end])
 }
 
@@ -261,7 +243,12 @@ fn serve_and_tell(
         room,
         pool,
     );
-    tell(calls, replies, orders * 2, out, room, pool, shown)
+    let sizes = Sizes {
+        two: orders * 2,
+        room,
+        shown,
+    };
+    tell(calls, replies, out, pool, sizes)
 }
 
 // Reads the rest of a request, serves it, and says whether the answer was written.
@@ -320,7 +307,7 @@ fn answer_to(
 }
 
 // Reads a request and answers it, and says whether more may follow.
-fn turn() -> bool {
+fn next() -> bool {
     let mut head = [0u8; HEAD];
     if io::read_full(libc::STDIN_FILENO, &mut head) != HEAD {
         return false;
@@ -344,11 +331,11 @@ fn turn() -> bool {
     )
 }
 
-// A loop has to end, and nothing says that the input does. So the turns are counted down, from a number that no run
+// A loop has to end, and nothing says that the input does. So the rounds are counted down, from a number that no run
 // uses up.
 fn main() {
-    let mut turns = u64::MAX;
-    while turns > 0 && turn() {
-        turns -= 1;
+    let mut rounds = u64::MAX;
+    while rounds > 0 && next() {
+        rounds -= 1;
     }
 }

@@ -25,22 +25,27 @@ fn edit(marks: &mut Vec<bool>, edit: &Edit) -> (u64, u64, &'static str) {
     }
 }
 
-fn tell(question: &str, marks: &[bool]) {
+/// The figure, or why there is none.
+fn figure(value: Option<usize>) -> String {
+    value.map_or("(not so many strikes)".to_string(), |value| value.to_string())
+}
+
+fn tell(what: &str, marks: &[bool], lost: usize) {
     let strikes: Vec<usize> = (0..marks.len()).filter(|&frame| marks[frame]).collect();
     let quiet = strikes.windows(2).map(|pair| pair[1] - pair[0] - 1).max().unwrap_or(0);
     println!(
-        "{question}: {} frames, {} strikes; the first in frame {}, the 10th in frame {}; longest quiet {quiet} frames",
+        "{what}: {} frames, strikes {}; the first in frame {}, the 10th in frame {}; longest quiet {quiet}; lost {lost}",
         marks.len(),
         strikes.len(),
-        strikes[0],
-        strikes[9]
+        figure(strikes.first().copied()),
+        figure(strikes.get(9).copied())
     );
 }
 
 fn main() {
     let strikes_in = |frame| STORMS.iter().any(|(storm, each)| storm.contains(&frame) && frame % each == 0);
     let mut marks: Vec<bool> = (0..FRAMES).map(strikes_in).collect();
-    tell("as recorded", &marks);
+    tell("as recorded", &marks, 0);
 
     let edits = [
         Edit::Insert(4005, true),
@@ -53,12 +58,20 @@ fn main() {
         let (code, value, words) = edit(&mut marks, each);
         println!("edit {number}: {code} {value}, {words}");
     }
-    tell("after the edits", &marks);
+    tell("after the edits", &marks, 0);
 
-    let mut small = Vec::new();
-    while small.len() < LEAF_MOST {
-        small.insert(0, true);
+    let (mut small, mut withdrawn, mut lost, frames) = (Vec::new(), 0, 0, 200);
+    for frame in 0..frames {
+        if small.len() < LEAF_MOST {
+            small.push(frame % 2 == 1);
+        } else {
+            lost += 1;
+        }
+        if frame % 20 == 19 {
+            small.remove(3);
+            withdrawn += 1;
+        }
     }
-    println!("a small pool: {} marks taken, then 4, full: the mark was NOT taken", small.len());
-    println!("a small pool: {} strikes are held", small.iter().filter(|&&mark| mark).count());
+    tell("a busy storm", &small, lost);
+    println!("frames taken {frames} = held {} + withdrawn {withdrawn} + lost {lost}", small.len());
 }

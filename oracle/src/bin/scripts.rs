@@ -4,7 +4,7 @@
 //!     scripts PROGRAM file SCRIPT...
 //!
 //! The second form takes scripts that are there. Each script is played by the program, a process of its own, and what it prints is held to the reading, byte for byte. The reading is written
-//! from the scope: a line is split and read here by the standard library, the marks are a plain list, and whether there is room is told by the
+//! from docs/OPERATORS.md: a line is split and read here by the standard library, the marks are a plain list, and whether there is room is told by the
 //! published Rust's tree.
 
 #[path = "scripts/makes.rs"]

@@ -1,35 +1,14 @@
--- `bits_replay::main` is safe and ends. Nothing has to hold from turn to turn, and the measure is the turns that are left.
+-- `bits_replay::main` is safe and ends. Nothing has to hold from round to round, and the measure is the rounds that are left.
 -- Assumes nothing.
 use borrow.Author.Needs.{needs}
 use Rattle.bits_replay.proofs.main.Statement.{statement}
 use Rattle.bits_replay.proofs.main.Tie as tie
 
 abbrev Inv-loop : tie.InvT-loop
-Inv-loop turns₀ turns = Unit {0}
+Inv-loop rounds₀ rounds = Unit {0}
 
 abbrev μ-loop : tie.MeasureT-loop
-μ-loop turns₀ turns = turns
-
-loop-holds : tie.Need-loop-holds Inv-loop μ-loop
-loop-holds c = tt
-
-turn-requires : tie.Need-turn-requires Inv-loop μ-loop
-turn-requires c κs = tt
-
-sub-turns : tie.Need-sub-turns Inv-loop μ-loop
-sub-turns c = search needs
-
-loop-less : tie.Need-loop-less Inv-loop μ-loop
-loop-less c = search needs
-
-loop-again : tie.Need-loop-again Inv-loop μ-loop
-loop-again c = tt
-
-returns : tie.Need-returns Inv-loop μ-loop
-returns c = tt
-
-returns-2 : tie.Need-returns-2 Inv-loop μ-loop
-returns-2 c = tt
+μ-loop rounds₀ rounds = rounds
 
 pub main-spec : {M : Type 1} → statement M
-main-spec = tie.close (tie.spec Inv-loop μ-loop loop-holds turn-requires sub-turns loop-less loop-again returns returns-2)
+main-spec = tie.close (tie.spec Inv-loop μ-loop (λ c. tt) (λ c κs. tt) (λ c. search needs) (λ c. search needs) (λ c. tt) (λ c. tt) (λ c. tt))

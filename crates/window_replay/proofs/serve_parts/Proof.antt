@@ -9,18 +9,6 @@ pub serve-parts-spec : {M : Type 1} → statement M
 serve-parts-spec =
     tie.close
     (tie.spec
-    (λ c. search needs)
-    (λ c. simp length-take (omega arith))
-    (λ c. simp length-take (omega arith))
-    (λ c. search needs)
-    (λ c. simp length-take (omega arith))
-    (λ c. search needs)
-    (λ c. search needs)
-    (λ c. simp length-take (omega arith))
-    (λ c. search needs)
-    (λ c. simp length-take (omega arith))
-    (λ c κs. search needs)
-    (λ c. search needs)
-    (λ c. search needs)
-    (λ c. search needs)
-    (λ c. search needs))
+    (λ c. search needs) (λ c. simp length-take (omega arith)) (λ c. simp length-take (omega arith)) (λ c. search needs)
+    (λ c. simp length-take (omega arith)) (λ c. search needs) (λ c. search needs) (λ c. simp length-take (omega arith)) (λ c. search needs)
+    (λ c. simp length-take (omega arith)) (λ c κs. search needs) (λ c. search needs) (λ c. search needs) (λ c. search needs) (λ c. search needs))

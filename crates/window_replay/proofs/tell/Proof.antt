@@ -9,11 +9,5 @@ pub tell-spec : {M : Type 1} → statement M
 tell-spec =
     tie.close
     (tie.spec
-    (λ c. search needs)
-    (λ c κs. search needs)
-    (λ c. search needs)
-    (λ c κs. search needs)
-    (λ c. search needs)
-    (λ c. simp length-take (omega arith))
-    (λ c κs. search needs)
-    (λ c. search needs))
+    (λ c. search needs) (λ c κs. search needs) (λ c. search needs) (λ c κs. search needs) (λ c. search needs) (λ c. simp length-take (omega arith))
+    (λ c κs. search needs) (λ c. search needs))

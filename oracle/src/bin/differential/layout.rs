@@ -1,4 +1,4 @@
-//! Reads a pool's words as the scope lays them out, by itself: it knows neither the library's code nor the published Rust. A pool that is not
+//! Reads a pool's words as docs/REFERENCE.md lays them out, by itself: it knows neither the library's code nor the published Rust. A pool that is not
 //! well-formed reads as none.
 
 use oracle::Part;

@@ -25,7 +25,7 @@ fn built<const WORDS: usize>(words: &[u64], length: u64) -> [u64; WORDS] {
 fn one(pool: &mut [u64], order: [u64; 3]) -> Result<u64, Refusal> {
     let mut out = [0; 2];
     assert_eq!(run(pool, &order, &mut out), Ok(1));
-    answer(out[0], out[1])
+    answer(out[0], out[1]).expect("an order is answered 0 to 11")
 }
 
 // A call that is refused so, and leaves each word as it was.

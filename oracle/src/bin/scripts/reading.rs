@@ -1,4 +1,4 @@
-//! What a script prints, read from the scope and from nothing of ours.
+//! What a script prints, read from docs/OPERATORS.md and from nothing else of ours.
 
 use oracle::orders::list::{bits_of, reply, values};
 use oracle::orders::*;

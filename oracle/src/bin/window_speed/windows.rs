@@ -94,7 +94,7 @@ impl Windows {
         let words: Vec<u64> = orders.iter().flat_map(|order| order.words()).collect();
         let mut out = vec![0; 2 * orders.len()];
         assert_eq!(run(&mut self.pools[0], &words, &mut out), Ok(orders.len() as u64));
-        assert!(answers(&out).all(|answer| answer == Ok(0)), "no insert is Full");
+        assert!(answers(&out, orders.len() as u64).all(|answer| answer == Ok(0)), "no insert is Full");
         for order in orders {
             by_the_rust(&mut self.vector, order).unwrap();
         }
@@ -120,7 +120,9 @@ impl Windows {
             }
             times[which] = start.elapsed().as_nanos() as f64 / orders.len() as f64;
             assert!(
-                answers(&out).map(|answer| answer.expect("an order is done")).eq(told.iter().copied()),
+                answers(&out, orders.len() as u64)
+                    .map(|answer| answer.expect("an order is done"))
+                    .eq(told.iter().copied()),
                 "an answer differs"
             );
         }

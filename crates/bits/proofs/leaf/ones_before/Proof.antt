@@ -8,22 +8,20 @@ use Rattle.bits.proofs.TwoWords.{ones-low, ones-both, ones-most}
 use Rattle.bits.proofs.leaf.ones_before.Statement.{statement}
 use Rattle.bits.proofs.leaf.ones_before.Tie as tie
 
-ones-below-requires : tie.Need-ones-below-requires
-ones-below-requires c κs = search needs
-
 returns : tie.Need-returns
 unfolding bits-of
-returns c = let s = c .before .before in c .before .ones-below .ensures ∙ ones-low (s .args .leaf .low) (s .args .leaf .high) (s .args .end) (omega arith)
-
-ones-below-requires-2 : tie.Need-ones-below-requires-2
-ones-below-requires-2 c κs = search needs
+returns c = let s = c .before .before .args in c .before .ones-below .ensures ∙ ones-low (s .leaf) (s .end) (omega arith)
 
 add-result : tie.Need-add-result
-add-result c = let s = c .before .before .before in omega (arith, ones-most (s .args .end) (s .args .leaf .low), ones-most (s .args .end - 64) (s .args .leaf .high))
+add-result c =
+    let s = c .before .before .before .args in
+    omega (arith, ones-most (s .end) (s .leaf .low), ones-most (s .end - 64) (s .leaf .high))
 
 returns-2 : tie.Need-returns-2
 unfolding bits-of
-returns-2 c = let s = c .before .before .before in ap₂ (λ (x y : ℕ). x + y) (c .before .before .ones-below .ensures) (c .ones-below2 .ensures) ∙ ones-both (s .args .leaf .low) (s .args .leaf .high) (s .args .end) (c .before .if1 .left)
+returns-2 c =
+    let s = c .before .before .before .args in
+    ap₂ (λ (x y : ℕ). x + y) (c .before .before .ones-below .ensures) (c .ones-below2 .ensures) ∙ ones-both (s .leaf) (s .end) (c .before .if1 .left)
 
 pub ones-before-spec : {M : Type 1} → statement M
-ones-before-spec = tie.close (tie.spec ones-below-requires returns ones-below-requires-2 add-result returns-2)
+ones-before-spec = tie.close (tie.spec (λ c κs. search needs) returns (λ c κs. search needs) add-result returns-2)

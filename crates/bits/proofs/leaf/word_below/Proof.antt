@@ -1,14 +1,10 @@
 -- A mask of n ones keeps the n lowest bits. Assumes nothing.
 use borrow.Author.Needs.{needs}
-use native.Mathlib.Omega.{arith}
 use lib.Bits.{and-mask}
 use lib.Pow.{pow-pos}
 use Rattle.bits.proofs.Packed.{one-shl}
 use Rattle.bits.proofs.leaf.word_below.Statement.{statement}
 use Rattle.bits.proofs.leaf.word_below.Tie as tie
-
-shl-result : tie.Need-shl-result
-shl-result c = search needs
 
 sub-result : tie.Need-sub-result
 sub-result c = rw (one-shl (c .args .n) (c .pre)) (pow-pos (c .args .n))
@@ -17,4 +13,4 @@ returns : tie.Need-returns
 returns c = rw (one-shl (c .args .n) (c .pre)) (and-mask (c .args .word) (c .args .n))
 
 pub word-below-spec : {M : Type 1} → statement M
-word-below-spec = tie.close (tie.spec shl-result sub-result returns)
+word-below-spec = tie.close (tie.spec (λ c. search needs) sub-result returns)

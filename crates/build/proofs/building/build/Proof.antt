@@ -13,7 +13,7 @@ use Rattle.model.specs.Word.{marks-of}
 use Rattle.model.proofs.Rounds.{built-leaves-length, leaf-count-some}
 use Rattle.pool.specs.Node.{nodes-in}
 use Rattle.build.proofs.LeafMarks.{marks-of-length}
-use Rattle.build.proofs.Whole.{stands}
+use Rattle.build.proofs.WholeBuild.{stands}
 use Rattle.build.proofs.building.build.Statement.{statement}
 use Rattle.build.proofs.building.build.Tie as tie
 
@@ -41,7 +41,13 @@ rounds-requires c κs =
     )
 
 sub-chain-from : tie.Need-sub-chain-from
-sub-chain-from c = omega (arith, leaf-count-some (c .before .before .before .before .before .before .before .before .before .before .before .before .args .length), c .before .before .before .before .before .before .before .before .before .leaf-count .ensures)
+sub-chain-from c =
+    omega (
+      arith,
+      leaf-count-some
+          (c .before .before .before .before .before .before .before .before .before .before .before .before .args .length),
+      c .before .before .before .before .before .before .before .before .before .leaf-count .ensures,
+    )
 
 returns : tie.Need-returns
 returns c p f =
@@ -54,7 +60,8 @@ returns c p f =
     let root = c .before .before .before .before .before .before .rounds in
     let chain = c .before .before .chain-from in
     let xs : List Bool = take (a .length) (marks-of (now (a .words))) in
-    let all : length xs ≡ a .length = length-take-le (a .length) (marks-of (now (a .words))) (omega (arith, marks-of-length (now (a .words)), room .given)) in
+    let all : length xs ≡ a .length =
+    length-take-le (a .length) (marks-of (now (a .words))) (omega (arith, marks-of-length (now (a .words)), room .given)) in
     let one = leaves .ensures .kept in
     let two = root .ensures .kept in
     let three = chain .ensures .kept in
@@ -71,11 +78,5 @@ pub build-spec : {M : Type 1} → statement M
 build-spec =
     tie.close
     (tie.spec
-    (λ c κs. search needs)
-    (λ c κs. search needs)
-    rounds-requires
-    (λ c. search needs)
-    sub-chain-from
-    (λ c κs. search needs)
-    (λ c. search needs)
+    (λ c κs. search needs) (λ c κs. search needs) rounds-requires (λ c. search needs) sub-chain-from (λ c κs. search needs) (λ c. search needs)
     returns)

@@ -1,4 +1,4 @@
--- Each turn frees one more number, which holds the next. Assumes nothing.
+-- Each pass frees one more number, which holds the next. Assumes nothing.
 use Prim.Native.Nat.{ℕ, _+_, _-_, _≤_}
 use native.Mathlib.Omega.{arith}
 use borrow.Author.Needs.{needs}
@@ -23,7 +23,8 @@ loop-again c =
     let s = c .before .before .before .before .before in (
       omega arith,
       omega arith,
-      one-freed (c .before .before .set-free .last .0) (s .loop .inv .2) (omega arith) (omega (arith, s .before .node-count .ensures)) (c .before .before .set-free .ensures),
+      one-freed (c .before .before .set-free .last .0) (s .loop .inv .2) (omega arith) (omega (arith, s .before .node-count .ensures))
+          (c .before .before .set-free .ensures),
     )
 
 returns : tie.Need-returns Inv-loop μ-loop
@@ -39,18 +40,13 @@ returns c =
       begin = refl;
       many = ap (λ (n : ℕ). n - a .first) end;
       below = f .kept;
-      chain = chained-from (s .nodes) (nodes-in (now (a .nodes))) (a .first) (nodes-in (now (a .nodes)) - a .first) all (λ j l h. f .free j l (omega arith));
+      chain = chained-from (s .nodes) (nodes-in (now (a .nodes))) (a .first) (nodes-in (now (a .nodes)) - a .first) all
+          (λ j l h. f .free j l (omega arith));
     }
 
 pub chain-from-spec : {M : Type 1} → statement M
 chain-from-spec =
     tie.close
     (tie.spec
-    Inv-loop
-    μ-loop
-    (λ c κs. search needs)
-    loop-holds
-    (λ c. search needs) (λ c κs. search needs) (λ c. search needs) (λ c. search needs)
-    loop-again
-    (λ c. search needs) (λ c. search needs)
-    returns)
+    Inv-loop μ-loop (λ c κs. search needs) loop-holds (λ c. search needs) (λ c κs. search needs) (λ c. search needs) (λ c. search needs) loop-again
+    (λ c. search needs) (λ c. search needs) returns)

@@ -1,4 +1,4 @@
--- Each turn puts one more leaf in front of the row. Assumes nothing.
+-- Each pass puts one more leaf in front of the row. Assumes nothing.
 use Prim.Native.Nat.{_-_, _≤_}
 use native.Mathlib.Numerals.{add-one}
 use native.Mathlib.Omega.{arith}
@@ -20,34 +20,14 @@ Inv-loop nodes₀ words length leaves items₀ i₀ nodes items i =
 abbrev μ-loop : tie.MeasureT-loop
 μ-loop nodes₀ words length leaves items₀ i₀ nodes items i = leaves - i
 
-nothing-requires : tie.Need-nothing-requires Inv-loop μ-loop
-nothing-requires c κs = search needs
-
 loop-holds : tie.Need-loop-holds Inv-loop μ-loop
 loop-holds c =
     let a = c .before .before .before .args in
     (omega arith, refl, refl, none-begun (now (a .nodes)) (take (a .length) (marks-of (now (a .words)))) (a .leaves) _)
 
 put-leaf-requires : tie.Need-put-leaf-requires Inv-loop μ-loop
-put-leaf-requires c κs = let a = c .before .before .before .before .before .before .args in omega (arith, leaf-begins (c .before .before .loop .i) (a .length) (omega arith))
-
-sub-at : tie.Need-sub-at Inv-loop μ-loop
-sub-at c = search needs
-
-sub-at-2 : tie.Need-sub-at-2 Inv-loop μ-loop
-sub-at-2 c = search needs
-
-mul-items : tie.Need-mul-items Inv-loop μ-loop
-mul-items c = search needs
-
-array-set-from-items : tie.Need-array-set-from-items Inv-loop μ-loop
-array-set-from-items c = search needs
-
-add-i : tie.Need-add-i Inv-loop μ-loop
-add-i c = search needs
-
-loop-less : tie.Need-loop-less Inv-loop μ-loop
-loop-less c = search needs
+put-leaf-requires c κs = let a = c .before .before .before .before .before .before .args in
+    omega (arith, leaf-begins (c .before .before .loop .i) (a .length) (omega arith))
 
 loop-again : tie.Need-loop-again Inv-loop μ-loop
 unfolding leaf-marks
@@ -59,11 +39,9 @@ loop-again c =
       omega arith,
       omega arith,
       simp length-set (s .inv .2),
-      rw add-one (one-begun (p .last .0) _ (p .result) (s .inv .3) (omega arith) (omega arith) (omega arith) (omega arith) (p .ensures .0) (p .ensures .1)),
+      rw add-one (one-begun (p .last .0) _ (p .result) (s .inv .3) (omega arith) (omega arith) (omega arith) (omega arith) (p .ensures .0)
+          (p .ensures .1)),
     )
-
-same-length : tie.Need-same-length Inv-loop μ-loop
-same-length c = search needs
 
 returns : tie.Need-returns Inv-loop μ-loop
 returns c =
@@ -74,17 +52,5 @@ pub put-leaves-spec : {M : Type 1} → statement M
 put-leaves-spec =
     tie.close
     (tie.spec
-    Inv-loop
-    μ-loop
-    nothing-requires
-    loop-holds
-    put-leaf-requires
-    sub-at
-    sub-at-2
-    mul-items
-    array-set-from-items
-    add-i
-    loop-less
-    loop-again
-    same-length
-    returns)
+    Inv-loop μ-loop (λ c κs. search needs) loop-holds put-leaf-requires (λ c. search needs) (λ c. search needs) (λ c. search needs)
+    (λ c. search needs) (λ c. search needs) (λ c. search needs) loop-again (λ c. search needs) returns)

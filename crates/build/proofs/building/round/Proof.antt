@@ -1,4 +1,4 @@
--- Each turn joins one pair more; then the last pair is joined, and an odd tree to it. Assumes nothing.
+-- Each pass joins one pair more; then the last pair is joined, and an odd tree to it. Assumes nothing.
 use Prim.Native.Nat.{suc, _+_, _-_, _*_, _/_, _≤_}
 use native.Mathlib.Numerals.{add-one}
 use native.Mathlib.Omega.{arith}
@@ -20,7 +20,7 @@ Inv-loop nodes₀ count next items made₀ i₀ nodes made i =
 abbrev μ-loop : tie.MeasureT-loop
 μ-loop nodes₀ count next items made₀ i₀ nodes made i = count - i
 
--- ---- a turn
+-- ---- a pass
 
 loop-holds : tie.Need-loop-holds Inv-loop μ-loop
 loop-holds c = (omega arith, refl, c .before .pre .1 .wait .room, λ ts e b. no-pair b)
@@ -99,50 +99,17 @@ returns-2 c =
           let p = s .inv .3 ts e b in
           let last : a .next + (a .count - a .count / 2) ≡ suc (suc (a .next + s .i)) = omega arith in
           rw last
-          (odd-ends (p .0) (p .1) b (p .2) (omega arith) (omega arith) room (omega arith) (j .ensures) (rw (add-one (a .next + s .i)) at (k .ensures)));
+          (odd-ends (p .0) (p .1) b (p .2) (omega arith) (omega arith) room (omega arith) (j .ensures)
+          (rw (add-one (a .next + s .i)) at (k .ensures)));
     }
 
 pub round-spec : {M : Type 1} → statement M
 round-spec =
     tie.close
     (tie.spec
-    Inv-loop
-    μ-loop
-    loop-holds
-    (λ c. search needs)
-    (λ c. search needs)
-    (λ c. search needs)
-    (λ c. search needs)
-    (λ c. search needs)
-    (λ c. search needs)
-    (λ c. search needs)
-    (λ c. search needs)
-    (λ c. search needs)
-    joined-requires
-    (λ c. search needs)
-    (λ c. search needs)
-    (λ c. search needs)
-    (λ c. search needs)
-    loop-again
-    (λ c. search needs)
-    (λ c. search needs)
-    (λ c. search needs)
-    (λ c. search needs)
-    (λ c. search needs)
-    (λ c. search needs)
-    (λ c. search needs)
-    joined-requires-2
-    (λ c. search needs)
-    (λ c. search needs)
-    (λ c. search needs)
-    returns
-    (λ c. search needs)
-    (λ c. search needs)
-    (λ c. search needs)
-    (λ c. search needs)
-    (λ c. search needs)
-    joined-requires-3
-    (λ c. search needs)
-    (λ c. search needs)
-    (λ c. search needs)
-    returns-2)
+    Inv-loop μ-loop loop-holds (λ c. search needs) (λ c. search needs) (λ c. search needs) (λ c. search needs) (λ c. search needs)
+    (λ c. search needs) (λ c. search needs) (λ c. search needs) (λ c. search needs) joined-requires (λ c. search needs) (λ c. search needs)
+    (λ c. search needs) (λ c. search needs) loop-again (λ c. search needs) (λ c. search needs) (λ c. search needs) (λ c. search needs)
+    (λ c. search needs) (λ c. search needs) (λ c. search needs) joined-requires-2 (λ c. search needs) (λ c. search needs) (λ c. search needs)
+    returns (λ c. search needs) (λ c. search needs) (λ c. search needs) (λ c. search needs) (λ c. search needs) joined-requires-3
+    (λ c. search needs) (λ c. search needs) (λ c. search needs) returns-2)

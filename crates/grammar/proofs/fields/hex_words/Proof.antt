@@ -19,24 +19,6 @@ abbrev μ-loop : tie.MeasureT-loop
 loop-holds : tie.Need-loop-holds Inv-loop μ-loop
 loop-holds c = gathered-none _ _
 
-find-requires : tie.Need-find-requires Inv-loop μ-loop
-find-requires c κs = omega arith
-
-sub-hex-word : tie.Need-sub-hex-word Inv-loop μ-loop
-sub-hex-word c = omega arith
-
-part-hex-word-start : tie.Need-part-hex-word-start Inv-loop μ-loop
-part-hex-word-start c = omega arith
-
-part-hex-word-end : tie.Need-part-hex-word-end Inv-loop μ-loop
-part-hex-word-end c = omega arith
-
-hex-word-requires : tie.Need-hex-word-requires Inv-loop μ-loop
-hex-word-requires c κs = search needs
-
-enum-known-word : tie.Need-enum-known-word Inv-loop μ-loop
-enum-known-word c = search needs
-
 enum-told : tie.Need-enum-told Inv-loop μ-loop
 enum-told c = search needs
 
@@ -44,12 +26,14 @@ same-length : tie.Need-same-length Inv-loop μ-loop
 same-length c = c .before .before .before .before .before .loop .inv .as-long
 
 returns : tie.Need-returns Inv-loop μ-loop
-returns c = gather-not (c .before .before .before .before .before .loop .inv) (c .before .before .before .before .find .ensures .0) (nothing-is (c .before .before .hex-word .ensures) (c .enum-told .given .1))
+returns c = gather-not (c .before .before .before .before .before .loop .inv) (c .before .before .before .before .find .ensures .0)
+    (nothing-is (c .before .before .hex-word .ensures) (c .enum-told .given .1))
 
 -- a word was read
 next : (c : tie.After-word Inv-loop μ-loop)
     → let at-loop = c .before .before .before .before .before in let args = at-loop .before .before .before .args in
-    Next (args .fields .now) (args .words .now) (at-loop .loop .words) (at-loop .loop .at) (at-loop .loop .count) (c .before .before .before .before .find .result) (c .word .given .0 .0)
+    Next (args .fields .now) (args .words .now) (at-loop .loop .words) (at-loop .loop .at) (at-loop .loop .count)
+    (c .before .before .before .before .find .result) (c .word .given .0 .0)
 next c =
     let at-loop = c .before .before .before .before .before in
     record {
@@ -70,16 +54,11 @@ add-count c = let room = next-room (next (c .before)) in omega arith
 
 same-length-2 : tie.Need-same-length-2 Inv-loop μ-loop
 same-length-2 c =
-    let at-loop = c .before .before .before .before .before .before .before in length-set (at-loop .loop .words) (at-loop .loop .count) _ ∙ at-loop .loop .inv .as-long
+    let at-loop = c .before .before .before .before .before .before .before in
+    length-set (at-loop .loop .words) (at-loop .loop .count) _ ∙ at-loop .loop .inv .as-long
 
 returns-2 : tie.Need-returns-2 Inv-loop μ-loop
 returns-2 c = next-last (next (c .before .before)) (omega arith)
-
-add-at : tie.Need-add-at Inv-loop μ-loop
-add-at c = omega arith
-
-loop-less : tie.Need-loop-less Inv-loop μ-loop
-loop-less c = omega arith
 
 loop-again : tie.Need-loop-again Inv-loop μ-loop
 loop-again c = next-more (next (c .before .before)) (omega arith)
@@ -88,23 +67,6 @@ pub hex-words-spec : {M : Type 1} → statement M
 hex-words-spec =
     tie.close
     (tie.spec
-    Inv-loop
-    μ-loop
-    loop-holds
-    find-requires
-    sub-hex-word
-    part-hex-word-start
-    part-hex-word-end
-    hex-word-requires
-    enum-known-word
-    enum-told
-    same-length
-    returns
-    mul-words
-    slice-write-words
-    add-count
-    same-length-2
-    returns-2
-    add-at
-    loop-less
-    loop-again)
+    Inv-loop μ-loop loop-holds (λ c κs. omega arith) (λ c. omega arith) (λ c. omega arith) (λ c. omega arith) (λ c κs. search needs)
+    (λ c. search needs) enum-told same-length returns mul-words slice-write-words add-count same-length-2 returns-2 (λ c. omega arith)
+    (λ c. omega arith) loop-again)

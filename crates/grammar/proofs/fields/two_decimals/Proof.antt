@@ -13,48 +13,20 @@ use Rattle.grammar.proofs.fields.two_decimals.Tie as tie
 cut : (c : tie.After-field-end) → Cut (c .before .before .args .fields .now) (c .field-end .result)
 cut c = record { here = c .field-end .ensures .0 }
 
-field-end-requires : tie.Need-field-end-requires
-field-end-requires c κs = search needs
-
 returns : tie.Need-returns
 returns c = λ ask. two-alone (cut (c .before)) ask (omega arith)
 
-add-next : tie.Need-add-next
-add-next c = search needs
-
 slice-aggregate-decimal : tie.Need-slice-aggregate-decimal
-slice-aggregate-decimal c = sym (length-take-le (c .before .before .field-end .result) (c .before .before .before .before .args .fields .now) (omega arith))
-
-decimal-requires : tie.Need-decimal-requires
-decimal-requires c κs = search needs
+slice-aggregate-decimal c =
+    sym (length-take-le (c .before .before .field-end .result) (c .before .before .before .before .args .fields .now) (omega arith))
 
 enum-told : tie.Need-enum-told
 enum-told c = search needs
 
-enum-known-first : tie.Need-enum-known-first
-enum-known-first c = search needs
-
-sub-decimal : tie.Need-sub-decimal
-sub-decimal c = search needs
-
-part-decimal-start : tie.Need-part-decimal-start
-part-decimal-start c = search needs
-
-part-decimal-end : tie.Need-part-decimal-end
-part-decimal-end c = search needs
-
-decimal-requires-2 : tie.Need-decimal-requires-2
-decimal-requires-2 c κs = search needs
-
-enum-told-2 : tie.Need-enum-told-2
-enum-told-2 c = search needs
-
-enum-known-second : tie.Need-enum-known-second
-enum-known-second c = search needs
-
 returns-2 : tie.Need-returns-2
 unfolding bind
-returns-2 c = λ ask. two-more (cut (c .before .before .before .before .before)) ask (omega arith) ∙ rw (nothing-is (c .before .before .decimal .ensures) (c .enum-told .given .1))
+returns-2 c = λ ask. two-more (cut (c .before .before .before .before .before)) ask (omega arith)
+    ∙ rw (nothing-is (c .before .before .decimal .ensures) (c .enum-told .given .1))
 
 returns-3 : tie.Need-returns-3
 unfolding bind
@@ -62,7 +34,10 @@ returns-3 c =
     let first = c .before .before .before .before .before in
     λ ask.
     two-more (cut (c .before .before .before .before .before .before .before .before .before .before)) ask (omega arith)
-    ∙ rw (value-is (first .before .before .decimal .ensures) (first .first .given .1), nothing-is (c .before .before .decimal2 .ensures) (c .enum-told2 .given .1))
+    ∙ rw (
+      value-is (first .before .before .decimal .ensures) (first .first .given .1),
+      nothing-is (c .before .before .decimal2 .ensures) (c .enum-told2 .given .1),
+    )
 
 returns-4 : tie.Need-returns-4
 unfolding bind
@@ -71,25 +46,15 @@ returns-4 c =
     let second = c .before in
     λ ask.
     two-more (cut (c .before .before .before .before .before .before .before .before .before .before .before)) ask (omega arith)
-    ∙ rw (value-is (first .before .before .decimal .ensures) (first .first .given .1), value-is (second .before .before .decimal2 .ensures) (second .second .given .1))
+    ∙ rw (
+      value-is (first .before .before .decimal .ensures) (first .first .given .1),
+      value-is (second .before .before .decimal2 .ensures) (second .second .given .1),
+    )
 
 pub two-decimals-spec : {M : Type 1} → statement M
 two-decimals-spec =
     tie.close
     (tie.spec
-    field-end-requires
-    returns
-    add-next
-    slice-aggregate-decimal
-    decimal-requires
-    enum-told
-    enum-known-first
-    sub-decimal
-    part-decimal-start
-    part-decimal-end
-    decimal-requires-2
-    enum-told-2
-    enum-known-second
-    returns-2
-    returns-3
+    (λ c κs. search needs) returns (λ c. search needs) slice-aggregate-decimal (λ c κs. search needs) enum-told (λ c. search needs)
+    (λ c. search needs) (λ c. search needs) (λ c. search needs) (λ c κs. search needs) (λ c. search needs) (λ c. search needs) returns-2 returns-3
     returns-4)

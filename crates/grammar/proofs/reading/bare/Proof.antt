@@ -5,7 +5,7 @@ use mathlib.Core.List.{[], _∷_}
 use mathlib.Core.Option.{none}
 use denote.Enum.Declared.{tagOf}
 use types.Run.{OneOf, miss}
-use Rattle.serve.specs.Orders.{asks, with-zero}
+use Rattle.order.specs.Asked.{asks, with-zero}
 use Rattle.grammar.specs.Lines.{line-of, load-of, no-field, one-number, two-numbers}
 use Rattle.grammar.specs.declared.fields.Name.{Name}
 use Rattle.grammar.specs.declared.fields.Name.the-variants.{Pool, Load, Insert, Remove, Get, Rank, Select, Gap, Dump, Other}
@@ -30,9 +30,6 @@ no-line Other h = refl
 enum-told : tie.Need-enum-told
 enum-told c = search needs
 
-enum-told-2 : tie.Need-enum-told-2
-enum-told-2 c = search needs
-
 returns : tie.Need-returns
 unfolding line-of no-field asks with-zero
 returns c = λ ws. rw (c .enum-told .given .1)
@@ -45,4 +42,4 @@ returns-3 : tie.Need-returns-3
 returns-3 c = λ ws. no-line (c .before .args .name) (c .match .keys3)
 
 pub bare-spec : {M : Type 1} → statement M
-bare-spec = tie.close (tie.spec enum-told enum-told-2 returns returns-2 returns-3)
+bare-spec = tie.close (tie.spec enum-told (λ c. search needs) returns returns-2 returns-3)

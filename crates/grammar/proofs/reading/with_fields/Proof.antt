@@ -1,7 +1,7 @@
 -- `grammar::reading::with_fields` meets its contract, name by name. Assumes nothing.
 use borrow.Author.Needs.{needs}
 use mathlib.Core.Option.{none, some}
-use Rattle.serve.specs.Orders.{asks, quiet, with-zero}
+use Rattle.order.specs.Asked.{asks, quiet, with-zero}
 use Rattle.grammar.specs.Lines.{dumping, line-of, ordering}
 use Rattle.grammar.proofs.Asking.{insert-line, rank-line, select-line, some-field}
 use Rattle.grammar.proofs.reading.with_fields.Statement.{statement}
@@ -10,60 +10,9 @@ use Rattle.grammar.proofs.reading.with_fields.Tie as tie
 enum-told : tie.Need-enum-told
 enum-told c = search needs
 
-pool-line-requires : tie.Need-pool-line-requires
-pool-line-requires c κs = search needs
-
-enum-told-2 : tie.Need-enum-told-2
-enum-told-2 c = search needs
-
-load-line-requires : tie.Need-load-line-requires
-load-line-requires c κs = search needs
-
-enum-told-3 : tie.Need-enum-told-3
-enum-told-3 c = search needs
-
-place-and-bit-requires : tie.Need-place-and-bit-requires
-place-and-bit-requires c κs = search needs
-
-enum-told-4 : tie.Need-enum-told-4
-enum-told-4 c = search needs
-
-at-place-requires : tie.Need-at-place-requires
-at-place-requires c κs = search needs
-
-enum-told-5 : tie.Need-enum-told-5
-enum-told-5 c = search needs
-
-at-place-requires-2 : tie.Need-at-place-requires-2
-at-place-requires-2 c κs = search needs
-
-enum-told-6 : tie.Need-enum-told-6
-enum-told-6 c = search needs
-
-bit-and-place-requires : tie.Need-bit-and-place-requires
-bit-and-place-requires c κs = search needs
-
-enum-told-7 : tie.Need-enum-told-7
-enum-told-7 c = search needs
-
-bit-and-place-requires-2 : tie.Need-bit-and-place-requires-2
-bit-and-place-requires-2 c κs = search needs
-
-enum-told-8 : tie.Need-enum-told-8
-enum-told-8 c = search needs
-
-enum-told-9 : tie.Need-enum-told-9
-enum-told-9 c = search needs
-
-enum-told-10 : tie.Need-enum-told-10
-enum-told-10 c = search needs
-
 returns : tie.Need-returns
 unfolding line-of
 returns c = rw (c .before .enum-told .given .1) (c .pool-line .ensures _)
-
-same-length : tie.Need-same-length
-same-length c = search needs
 
 returns-2 : tie.Need-returns-2
 unfolding line-of
@@ -102,31 +51,7 @@ pub with-fields-spec : {M : Type 1} → statement M
 with-fields-spec =
     tie.close
     (tie.spec
-    enum-told
-    pool-line-requires
-    enum-told-2
-    load-line-requires
-    enum-told-3
-    place-and-bit-requires
-    enum-told-4
-    at-place-requires
-    enum-told-5
-    at-place-requires-2
-    enum-told-6
-    bit-and-place-requires
-    enum-told-7
-    bit-and-place-requires-2
-    enum-told-8
-    enum-told-9
-    enum-told-10
-    returns
-    same-length
-    returns-2
-    returns-3
-    returns-4
-    returns-5
-    returns-6
-    returns-7
-    returns-8
-    returns-9
-    returns-10)
+    enum-told (λ c κs. search needs) (λ c. search needs) (λ c κs. search needs) (λ c. search needs) (λ c κs. search needs) (λ c. search needs)
+    (λ c κs. search needs) (λ c. search needs) (λ c κs. search needs) (λ c. search needs) (λ c κs. search needs) (λ c. search needs)
+    (λ c κs. search needs) (λ c. search needs) (λ c. search needs) (λ c. search needs) returns (λ c. search needs) returns-2 returns-3 returns-4
+    returns-5 returns-6 returns-7 returns-8 returns-9 returns-10)

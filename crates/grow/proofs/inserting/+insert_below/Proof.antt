@@ -1,16 +1,20 @@
--- At a leaf the mark goes in and the leaf is settled; at a fork, which counts the mark, it goes to the child, and the fork is balanced again where
--- the child has grown. Assumes nothing.
+-- At a leaf the mark goes in and the leaf is settled; at a fork, which counts the mark, it goes to the child, and the
+-- fork is balanced again where the child has grown. Assumes nothing.
 use Prim.Native.Nat.{ℕ, _<_}
 use native.Mathlib.Omega.{arith}
-use mathlib.Core.Path.{_≡_, sym, _∙_}
+use mathlib.Core.Path.{_≡_, sym, ap, _∙_}
 use borrow.Author.Needs.{needs}
 use denote.Ref.{now}
-use lib.IntN.{pos}
-use Rattle.pool.specs.Node.{node-at}
+use mir.Syntax.{w64}
+use mir.Val.{toZ}
+use Rattle.pool.specs.Node.{as-node, node-at}
 use Rattle.pool.specs.declared.node.Node.the-variants as Node
-use Rattle.pool.proofs.Standing.{not-free, not-broken, rooted-node}
-use Rattle.turn.proofs.Differences.{alike, kept}
-use Rattle.grow.proofs.Descending.{Stepped, after-held, insert-fits, insert-at-leaf, inserted-at-leaf, insert-level, left-within, left-fits, stepped, insert-below-fork, stale-below, leveled-below, level-below}
+use Rattle.pool.proofs.Standing.{rooted-node}
+use Rattle.turn.proofs.Differences.{held}
+use Rattle.descent.proofs.Back.{after-held}
+use Rattle.descent.proofs.Down.{fork-level, left-within}
+use Rattle.grow.specs.Inserting.{Inserted, ToInsert}
+use Rattle.grow.proofs.Descending.{Counted, counted-here, insert-leveled, insert-level, insert-stale, left-fits, settled-leaf, to-child, to-settle}
 use borrow.Fn.Kinds.{In}
 use borrow.Fn.PlainCycle.{Measures, is, falls, and}
 use Rattle.grow.proofs.inserting.insert_below.Reads as insert-below
@@ -36,120 +40,158 @@ abbrev insert-below-below : ℕ → In 2 insert-below-kinds.ps
 insert-below-below t = and 2 insert-below-kinds.ps (falls 2 insert-below-kinds.ps _<_ μ-insert-below t) insert-below.Pre
 
 abbrev claims : ℕ → insert-below-lts.Claims
-claims t = (leaf-or-fork-reads.Asked, leaf-or-fork-reads.Learnt, insert-reads.Asked, insert-reads.Learnt, settle-reads.Asked, settle-reads.Learnt, toward-reads.Asked, toward-reads.Learnt, counted-reads.Asked, counted-reads.Learnt, set-fork-reads.Asked, set-fork-reads.Learnt, insert-below-below t, insert-below.Post, child-changed-reads.Asked, child-changed-reads.Learnt)
+claims t = (
+  leaf-or-fork-reads.Asked,
+  leaf-or-fork-reads.Learnt,
+  insert-reads.Asked,
+  insert-reads.Learnt,
+  settle-reads.Asked,
+  settle-reads.Learnt,
+  toward-reads.Asked,
+  toward-reads.Learnt,
+  counted-reads.Asked,
+  counted-reads.Learnt,
+  set-fork-reads.Asked,
+  set-fork-reads.Learnt,
+  insert-below-below t,
+  insert-below.Post,
+  child-changed-reads.Asked,
+  child-changed-reads.Learnt,
+)
 
--- ---- what is known at a place
+module _ (t : ℕ) where
+  -- ---- places, and how they are reached
 
-read-leaf : (t : ℕ) (c : insert-below-lts.After-leaf (claims t) (insert-below-at t) insert-below.Post)
-    → let start = c .before .before .before .before .before in node-at (now (start .args .nodes)) (start .args .n) ≡ Node.Leaf (c .leaf .given .0 .0)
-read-leaf t c = sym (c .before .before .leaf-or-fork .ensures) ∙ c .leaf .given .1
+  abbrev Start : Type 0
+  Start = insert-below-lts.Start (claims t) (insert-below-at t) insert-below.Post
 
-read-fork : (t : ℕ) (c : insert-below-lts.After-fork (claims t) (insert-below-at t) insert-below.Post)
-    → let start = c .before .before .before .before .before in node-at (now (start .args .nodes)) (start .args .n) ≡ Node.Fork (c .fork .given .0 .0)
-read-fork t c = sym (c .before .before .leaf-or-fork .ensures) ∙ c .fork .given .1
+  abbrev Leaf-read : Type 0
+  Leaf-read = insert-below-lts.After-leaf (claims t) (insert-below-at t) insert-below.Post
 
--- the step to the child, with the mark counted
-step : (t : ℕ) (c : insert-below-lts.After-set-fork (claims t) (insert-below-at t) insert-below.Post)
-    → let toward = c .before .before .before in
-    let fork = toward .before .before in
-    let a = fork .before .before .before .before .before .args in
-    Stepped (now (a .nodes)) (c .set-fork .last .0) (a .n) (a .length) (a .index) (a .bit) (fork .fork .given .0 .0) (toward .toward .result)
-step t c =
-    let count = c .before in
-    let toward = count .before .before in
-    stepped (count .counted .result) (read-fork t (toward .before .before)) (toward .toward .ensures .0) (toward .toward .ensures .1) (count .counted .ensures)
-    (c .set-fork .ensures)
+  abbrev Fork-read : Type 0
+  Fork-read = insert-below-lts.After-fork (claims t) (insert-below-at t) insert-below.Post
 
--- ---- needs
+  abbrev Fork-put : Type 0
+  Fork-put = insert-below-lts.After-set-fork (claims t) (insert-below-at t) insert-below.Post
 
-leaf-or-fork-requires : (t : ℕ) → insert-below-lts.Need-leaf-or-fork-requires (claims t) (insert-below-at t) insert-below.Post
-leaf-or-fork-requires t c κs = let p = c .before .before .pre .1 in rooted-node (p .1) (p .3 .site .rooted)
+  abbrev Child-done : Type 0
+  Child-done = insert-below-lts.After-insert-below (claims t) (insert-below-at t) insert-below.Post
 
-add-settle : (t : ℕ) → insert-below-lts.Need-add-settle (claims t) (insert-below-at t) insert-below.Post
-add-settle t c =
-    let p = c .before .before .before .before .before .before .before .before .before .pre .1 in
-    let few = insert-fits (p .1) (p .2) (p .3) in
-    omega arith
+  abbrev leaf-start : Leaf-read → Start
+  leaf-start c = c .before .before .before .before .before
 
-settle-requires : (t : ℕ) → insert-below-lts.Need-settle-requires (claims t) (insert-below-at t) insert-below.Post
-settle-requires t c κs =
-    let leaf = c .before .before .before .before in
-    let start = leaf .before .before .before .before .before in
-    let p = start .pre .1 in
-    let s = insert-at-leaf (start .args .bit) (read-leaf t leaf) (c .insert .ensures) (p .1) (p .2) (p .3) in
-    (p .0, s .0, p .2, s .1)
+  abbrev fork-start : Fork-read → Start
+  fork-start c = c .before .before .before .before .before
 
-toward-requires : (t : ℕ) → insert-below-lts.Need-toward-requires (claims t) (insert-below-at t) insert-below.Post
-toward-requires t c κs =
-    let fork = c .before in
-    let p = fork .before .before .before .before .before .pre .1 in
-    left-within (p .1) (p .2) (p .3) (read-fork t fork)
+  abbrev put-read : Fork-put → Fork-read
+  put-read c = c .before .before .before .before .before
 
-counted-requires : (t : ℕ) → insert-below-lts.Need-counted-requires (claims t) (insert-below-at t) insert-below.Post
-counted-requires t c κs =
-    let fork = c .before .before .before in
-    let p = fork .before .before .before .before .before .pre .1 in
-    left-fits (p .1) (p .2) (p .3) (read-fork t fork)
+  abbrev done-put : Child-done → Fork-put
+  done-put c = c .before .before .before .before .before
 
-sub-insert-below : (t : ℕ) → insert-below-lts.Need-sub-insert-below (claims t) (insert-below-at t) insert-below.Post
-sub-insert-below t c =
-    let fork = c .before .before .before .before .before .before .before .before .before in
-    let p = fork .before .before .before .before .before .pre .1 in
-    insert-level (p .1) (p .2) (p .3) (read-fork t fork)
+  -- ---- what is known there
 
-insert-below-requires : (t : ℕ) → insert-below-lts.Need-insert-below-requires (claims t) (insert-below-at t) insert-below.Post
-insert-below-requires t c κs =
-    let put = c .before .before .before .before in
-    let start = put .before .before .before .before .before .before .before .before .before .before in
-    let p = start .pre .1 in
-    let u = insert-below-fork (step t put) (p .1) (p .2) (p .3) in
-    (omega (arith, start .pre .0, insert-level (p .1) (p .2) (p .3) (step t put .read)), (p .0, u .0, p .2, u .1))
+  abbrev Given : Start → Type 0
+  Given s = ToInsert (now (s .args .nodes)) (s .args .n) (s .args .levels) (now (s .args .head)) (s .args .length) (s .args .index)
 
-returns : (t : ℕ) → insert-below-lts.Need-returns (claims t) (insert-below-at t) insert-below.Post
-returns t c = λ end u free q.
-    let below = c .before .before .before in
-    let put = below .before .before .before .before .before in
-    let change = below .insert-below in
-    level-below (step t put) free (λ v. change .ensures end v free) u q
-    (alike (change .result) (pos 0) (record { sfits = change .ok }) (record { sfits = omega arith }) (c .if1 .taken))
+  read-leaf : (c : Leaf-read) → node-at (now (leaf-start c .args .nodes)) (leaf-start c .args .n) ≡ Node.Leaf (c .leaf .given .0 .0)
+  read-leaf c = sym (c .before .before .leaf-or-fork .ensures) ∙ ap as-node (c .leaf .given .1)
 
-child-changed-requires : (t : ℕ) → insert-below-lts.Need-child-changed-requires (claims t) (insert-below-at t) insert-below.Post
-child-changed-requires t c κs =
-    let below = c .before .before .before .before in
-    let put = below .before .before .before .before .before in
-    let change = below .insert-below in
-    let p = put .before .before .before .before .before .before .before .before .before .before .pre .1 in
-    let s = stale-below (step t put) (p .2) (λ v. change .ensures (p .0) v (p .2)) (p .1) (p .3) in
-    (s .0, s .1, s .2, s .3, kept (change .result) (record { sfits = change .ok }) (s .4))
+  read-fork : (c : Fork-read) → node-at (now (fork-start c .args .nodes)) (fork-start c .args .n) ≡ Node.Fork (c .fork .given .0 .0)
+  read-fork c = sym (c .before .before .leaf-or-fork .ensures) ∙ ap as-node (c .fork .given .1)
 
-returns-2 : (t : ℕ) → insert-below-lts.Need-returns-2 (claims t) (insert-below-at t) insert-below.Post
-returns-2 t c = λ end u free q.
-    let settled = c .before .before in
-    let leaf = settled .before .before .before .before .before in
-    let bit = leaf .before .before .before .before .before .args .bit in
-    let done = settled .settle in
-    after-held (done .result) (record { sfits = done .ok })
-    (inserted-at-leaf bit (read-leaf t leaf) (settled .before .insert .ensures) u free q (λ xs s. done .ensures end xs free s))
+  -- the step to the child, with the mark counted
+  step : (c : Fork-put) → let fork = put-read c in
+      let a = fork-start fork .args in
+      Counted (now (a .nodes)) (c .set-fork .last .0) (a .n) (a .length) (a .index) (a .bit) (fork .fork .given .0 .0)
+      (c .before .before .before .toward .result)
+  step c =
+      let count = c .before in
+      let toward = count .before .before .toward in
+      counted-here (count .counted .result)
+      (record {
+        read = read-fork (put-read c);
+        toward = record { to-left = toward .ensures .0; to-right = toward .ensures .1 };
+      })
+      (count .counted .ensures) (c .set-fork .ensures)
 
-returns-3 : (t : ℕ) → insert-below-lts.Need-returns-3 (claims t) (insert-below-at t) insert-below.Post
-returns-3 t c = λ end u free q.
-    let changed = c .before .before .child-changed in
-    let below = c .before .before .before .before .before .before .before in
-    let put = below .before .before .before .before .before in
-    let change = below .insert-below in
-    after-held (changed .result) (record { sfits = changed .ok })
-    (leveled-below (step t put) free (λ v. change .ensures end v free) u q
-    (λ l r was s a. changed .ensures l r was s (kept (change .result) (record { sfits = change .ok }) a)))
+  -- what the call on the child left, with its change as a word
+  done : (c : Child-done) (b : Given (fork-start (put-read (done-put c))))
+      → Inserted (to-child (step (done-put c)) b) (c .insert-below .last .0) (c .insert-below .last .1 .0) (held (c .insert-below .result))
+      (fork-start (put-read (done-put c)) .args .bit)
+  done c b = after-held (c .insert-below .result) (record { sfits = c .insert-below .ok }) (c .insert-below .ensures (to-child (step (done-put c)) b))
 
-returns-4 : (t : ℕ) → insert-below-lts.Need-returns-4 (claims t) (insert-below-at t) insert-below.Post
-returns-4 t c = λ end u free q. not-free u _ (q .site .rooted) (sym (c .before .before .leaf-or-fork .ensures) ∙ c .enum-told .given .1)
+  -- ---- needs
 
-returns-5 : (t : ℕ) → insert-below-lts.Need-returns-5 (claims t) (insert-below-at t) insert-below.Post
-returns-5 t c = λ end u free q. not-broken u (q .site .rooted) (sym (c .before .before .leaf-or-fork .ensures) ∙ c .enum-told2 .given .1)
+  leaf-or-fork-requires : insert-below-lts.Need-leaf-or-fork-requires (claims t) (insert-below-at t) insert-below.Post
+  leaf-or-fork-requires c κs = let b = c .before .before .pre .1 in rooted-node (b .at .tree) (b .at .site .rooted)
+
+  add-settle : insert-below-lts.Need-add-settle (claims t) (insert-below-at t) insert-below.Post
+  add-settle c =
+      let b = leaf-start (c .before .before .before .before) .pre .1 in
+      let few = b .at .site .few in
+      omega (arith, b .at .total-is)
+
+  settle-requires : insert-below-lts.Need-settle-requires (claims t) (insert-below-at t) insert-below.Post
+  settle-requires c κs =
+      let leaf = c .before .before .before .before in
+      let start = leaf-start leaf in
+      to-settle (start .pre .1) (start .args .bit) (read-leaf leaf) (c .insert .ensures)
+
+  toward-requires : insert-below-lts.Need-toward-requires (claims t) (insert-below-at t) insert-below.Post
+  toward-requires c κs =
+      let b = fork-start (c .before) .pre .1 in
+      left-within (b .at .site .rooted) (read-fork (c .before)) (b .at .total-is)
+
+  counted-requires : insert-below-lts.Need-counted-requires (claims t) (insert-below-at t) insert-below.Post
+  counted-requires c κs =
+      let fork = c .before .before .before in
+      left-fits (fork-start fork .pre .1) (read-fork fork)
+
+  sub-insert-below : insert-below-lts.Need-sub-insert-below (claims t) (insert-below-at t) insert-below.Post
+  sub-insert-below c =
+      let fork = put-read (c .before .before .before .before) in
+      fork-level (fork-start fork .pre .1 .at .site .rooted) (read-fork fork)
+
+  insert-below-requires : insert-below-lts.Need-insert-below-requires (claims t) (insert-below-at t) insert-below.Post
+  insert-below-requires c κs =
+      let put = c .before .before .before .before in
+      let start = fork-start (put-read put) in
+      let b = start .pre .1 in
+      (omega (arith, start .pre .0, fork-level (b .at .site .rooted) (step put .step .read)), to-child (step put) b)
+
+  returns : insert-below-lts.Need-returns (claims t) (insert-below-at t) insert-below.Post
+  returns c = λ b.
+      let below = c .before .before .before in
+      insert-level (step (done-put below)) b (done below b) (ap (toZ w64) (c .if1 .taken))
+
+  child-changed-requires : insert-below-lts.Need-child-changed-requires (claims t) (insert-below-at t) insert-below.Post
+  child-changed-requires c κs =
+      let below = c .before .before .before .before in
+      let b = fork-start (put-read (done-put below)) .pre .1 in
+      insert-stale (step (done-put below)) b (done below b)
+
+  returns-2 : insert-below-lts.Need-returns-2 (claims t) (insert-below-at t) insert-below.Post
+  returns-2 c = λ b.
+      let settled = c .before .before in
+      let leaf = settled .before .before .before .before .before in
+      let bit = leaf-start leaf .args .bit in
+      let made = settled .before .insert .ensures in
+      let read = read-leaf leaf in
+      let done = settled .settle in
+      after-held (done .result) (record { sfits = done .ok })
+      (settled-leaf b bit read made (done .ensures (to-settle b bit read made)))
+
+  returns-3 : insert-below-lts.Need-returns-3 (claims t) (insert-below-at t) insert-below.Post
+  returns-3 c = λ b.
+      let changed = c .before .before .child-changed in
+      let below = c .before .before .before .before .before .before .before in
+      after-held (changed .result) (record { sfits = changed .ok })
+      (insert-leveled (step (done-put below)) b (done below b) (changed .ensures))
 
 pub +insert-below-spec : {M : Type 1} → statement M
 +insert-below-spec =
     close μ-insert-below λ t. insert-below-lts.spec (claims t) (insert-below-at t) insert-below.Post
-    (leaf-or-fork-requires t) (λ c. search needs) (λ c κs. search needs) (add-settle t) (settle-requires t) (λ c. search needs) (toward-requires t) (counted-requires t)
-    (λ c κs. search needs) (sub-insert-below t) (insert-below-requires t) (λ c. search needs) (returns t) (child-changed-requires t) (λ c. search needs) (λ c. search needs)
-    (λ c. search needs) (returns-2 t) (λ c. search needs) (returns-3 t) (λ c. search needs) (returns-4 t) (λ c. search needs) (returns-5 t)
+    (leaf-or-fork-requires t) (λ c. search needs) (λ c κs. search needs) (add-settle t) (settle-requires t) (λ c. search needs)
+    (toward-requires t) (counted-requires t) (λ c κs. search needs) (sub-insert-below t) (insert-below-requires t)
+    (λ c. search needs) (returns t) (child-changed-requires t) (λ c. search needs) (returns-2 t) (λ c. search needs) (returns-3 t)

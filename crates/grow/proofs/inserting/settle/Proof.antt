@@ -1,23 +1,23 @@
 -- Below 128 marks the leaf is put as it is; the split has its own law. Assumes nothing.
+use native.Mathlib.Omega.{arith}
 use borrow.Author.Needs.{needs}
 use Rattle.grow.proofs.Splitting.{settled, full-now, full-split}
 use Rattle.grow.proofs.inserting.settle.Statement.{statement}
 use Rattle.grow.proofs.inserting.settle.Tie as tie
 
 returns : tie.Need-returns
-returns c = λ end xs free s. settled xs free s (c .before .before .before .before .if1 .taken) (c .before .before .set-leaf .ensures)
+returns c = λ b.
+    let small = c .before .before .before .before .if1 .taken in
+    settled b (omega arith) (c .before .before .set-leaf .ensures)
 
 split-requires : tie.Need-split-requires
-split-requires c κs =
-    let test = c .before .before in
-    let p = test .before .before .pre in
-    (p .0, p .1, p .2, full-now (p .1) (p .2) (p .3) (test .if1 .left))
+split-requires c κs = let test = c .before .before in full-now (test .before .before .pre) (test .if1 .left)
 
 returns-2 : tie.Need-returns-2
-returns-2 c = λ end xs free s.
+returns-2 c = λ b.
     let split = c .before .before in
     let full = split .before .before .before .if1 .left in
-    full-split xs free s full (split .split .ensures end xs free (full-now xs free s full))
+    full-split b full (split .split .ensures (full-now b full))
 
 pub settle-spec : {M : Type 1} → statement M
 settle-spec = tie.close (tie.spec (λ c κs. search needs) (λ c. search needs) returns split-requires (λ c. search needs) returns-2)

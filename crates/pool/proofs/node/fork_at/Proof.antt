@@ -1,23 +1,21 @@
--- What is read at n is the node there. Assumes nothing.
+-- The fork that stands at n is in its words. Assumes nothing.
 use borrow.Author.Needs.{needs}
+use mathlib.Core.Path.{_≡_, ap, sym, _∙_}
+use denote.Ref.{now}
+use Rattle.pool.specs.Node.{fork-in, fork-words}
+use Rattle.pool.proofs.Cells.{fork-says}
 use Rattle.pool.proofs.node.fork_at.Statement.{statement}
 use Rattle.pool.proofs.node.fork_at.Tie as tie
 
+cell-at-requires : tie.Need-cell-at-requires
+cell-at-requires c κs = let p = c .before .pre in fork-says (now (c .before .args .nodes)) (c .before .args .n) (p .0) (p .1) .0
+
 returns : tie.Need-returns
-returns c = rw (← c .before .before .before .node-at .ensures, c .before .fork .given .1)
-
-returns-2 : tie.Need-returns-2
-returns-2 c = rw (← c .before .before .before .node-at .ensures, c .before .enum-told .given .1) (c .no-fork .ensures)
-
-returns-3 : tie.Need-returns-3
-returns-3 c = rw (← c .before .before .before .node-at .ensures, c .before .enum-told2 .given .1) (c .no-fork2 .ensures)
-
-returns-4 : tie.Need-returns-4
-returns-4 c = rw (← c .before .before .before .node-at .ensures, c .before .enum-told3 .given .1) (c .no-fork3 .ensures)
+returns c =
+    let s = c .before .before .before in
+    let p = s .pre in
+    c .fork-in .ensures ∙ ap fork-words (c .before .cell-at .ensures ∙ fork-says (now (s .args .nodes)) (s .args .n) (p .0) (p .1) .1)
+    ∙ ap fork-in (sym (p .1))
 
 pub fork-at-spec : {M : Type 1} → statement M
-fork-at-spec =
-    tie.close
-    (tie.spec
-    (λ c κs. search needs) (λ c. search needs) (λ c. search needs) (λ c κs. search needs) (λ c. search needs) (λ c κs. search needs) (λ c. search needs) (λ c κs. search needs)
-    returns returns-2 returns-3 returns-4)
+fork-at-spec = tie.close (tie.spec cell-at-requires (λ c κs. search needs) returns)

@@ -1,23 +1,21 @@
--- What is read at n is the node there. Assumes nothing.
+-- The leaf that stands at n is in its words. Assumes nothing.
 use borrow.Author.Needs.{needs}
+use mathlib.Core.Path.{_≡_, ap, sym, _∙_}
+use denote.Ref.{now}
+use Rattle.pool.specs.Node.{leaf-in, leaf-words}
+use Rattle.pool.proofs.Cells.{leaf-says}
 use Rattle.pool.proofs.node.leaf_at.Statement.{statement}
 use Rattle.pool.proofs.node.leaf_at.Tie as tie
 
+cell-at-requires : tie.Need-cell-at-requires
+cell-at-requires c κs = let p = c .before .pre in leaf-says (now (c .before .args .nodes)) (c .before .args .n) (p .0) (p .1) .0
+
 returns : tie.Need-returns
-returns c = rw (← c .before .before .before .node-at .ensures, c .before .leaf .given .1)
-
-returns-2 : tie.Need-returns-2
-returns-2 c = rw (← c .before .before .node-at .ensures, c .enum-told .given .1)
-
-returns-3 : tie.Need-returns-3
-returns-3 c = rw (← c .before .before .node-at .ensures, c .enum-told2 .given .1)
-
-returns-4 : tie.Need-returns-4
-returns-4 c = rw (← c .before .before .node-at .ensures, c .enum-told3 .given .1)
+returns c =
+    let s = c .before .before .before in
+    let p = s .pre in
+    c .leaf-in .ensures ∙ ap leaf-words (c .before .cell-at .ensures ∙ leaf-says (now (s .args .nodes)) (s .args .n) (p .0) (p .1) .1)
+    ∙ ap leaf-in (sym (p .1))
 
 pub leaf-at-spec : {M : Type 1} → statement M
-leaf-at-spec =
-    tie.close
-    (tie.spec
-    (λ c κs. search needs) (λ c. search needs) (λ c. search needs) (λ c. search needs) (λ c. search needs)
-    returns returns-2 returns-3 returns-4)
+leaf-at-spec = tie.close (tie.spec cell-at-requires (λ c κs. search needs) returns)

@@ -1,7 +1,7 @@
 -- The fork says what its fourth and fifth word are. Assumes nothing.
 use native.Mathlib.Omega.{arith}
 use borrow.Author.Needs.{needs}
-use mathlib.Core.Path.{_≡_, ap, ap₂, _∙_}
+use mathlib.Core.Path.{_≡_, ap, _∙_}
 use mathlib.Core.List.{List}
 use denote.Ref.{now}
 use lib.ListN.{set}
@@ -16,7 +16,7 @@ lower-left-requires c κs =
     let w = now (c .before .before .args .nodes) in
     let p = c .before .before .pre in
     let s = fork-says w (c .before .before .args .n) (p .0) (p .1) in
-    (s .0, omega (arith, ap (λ (x : Cell). x .c) (s .1), p .2), omega (arith, ap (λ (x : Cell). x .d) (s .1), p .3))
+    (s .0, (omega (arith, ap (λ (x : Cell). x .fourth) (s .1), p .2), omega (arith, ap (λ (x : Cell). x .fifth) (s .1), p .3)))
 
 returns : tie.Need-returns
 returns c = λ f e.
@@ -24,7 +24,7 @@ returns c = λ f e.
     let w = now (a .nodes) in
     let s = fork-says w (a .n) f e in
     c .before .before .lower-left .ensures
-    ∙ ap₂ (λ (x y : ℕ). set (set w (a .n * 6 + 3) (x - a .total)) (a .n * 6 + 4) (y - a .ones)) (ap (λ (x : Cell). x .c) (s .1)) (ap (λ (x : Cell). x .d) (s .1))
+    ∙ ap (λ (x : Cell). set (set w (a .n * 6 + 3) (x .fourth - a .total)) (a .n * 6 + 4) (x .fifth - a .ones)) (s .1)
     ∙ put-left w (a .n) f _ _ e
 
 pub less-left-spec : {M : Type 1} → statement M

@@ -1,10 +1,10 @@
 -- The kind's number picks the layout, and past the last kind there is none. Assumes nothing.
 use Prim.Native.Nat.{ℕ, zero, suc}
 use borrow.Author.Needs.{needs}
-use mathlib.Core.Path.{_≡_, refl}
+use mathlib.Core.Path.{_≡_, refl, ap}
 use Rattle.pool.specs.Node.{of-kind, node-of}
 use Rattle.pool.specs.declared.node.Cell.{Cell}
-use Rattle.pool.specs.declared.node.Node.the-variants.{Broken}
+use Rattle.pool.specs.declared.node.Node.the-variants.{Broken, Fork}
 use Rattle.pool.proofs.node.node_of.Statement.{statement}
 use Rattle.pool.proofs.node.node_of.Tie as tie
 
@@ -21,7 +21,7 @@ returns-2 : tie.Need-returns-2
 returns-2 c = rw (node-of, c .before .match .keys2) (c .leaf-of .ensures)
 
 returns-3 : tie.Need-returns-3
-returns-3 c = rw (node-of, c .before .match .keys3) (c .fork-of .ensures)
+returns-3 c = rw (node-of, c .before .match .keys3) (ap Fork (c .fork-in .ensures))
 
 returns-4 : tie.Need-returns-4
 returns-4 c =

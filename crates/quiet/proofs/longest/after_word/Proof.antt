@@ -46,7 +46,8 @@ cast-run c = omega (arith, trailing-le 64 (18446744073709551615 - above (c .befo
 returns-2 : tie.Need-returns-2 Inv-loop μ-loop
 returns-2 c =
     let l = c .before .before .before .loop in
-    c .before .after-strike .ensures ∙ word-struck (l .now) (l .left) (l .rest) (l .inv .0) (l .inv .2) (c .before .before .if1 .left) (c .if2 .taken) ∙ l .inv .3
+    let more = c .before .before .if1 .left in
+    c .before .after-strike .ensures ∙ word-struck (l .now) (l .left) (l .rest) (l .inv .0) (l .inv .2) more (c .if2 .taken) ∙ l .inv .3
 
 shr-rest : tie.Need-shr-rest Inv-loop μ-loop
 shr-rest c = omega arith

@@ -7,10 +7,10 @@ use mathlib.Core.Path.{_≡_, sym, _∙_}
 use denote.Ref.{now}
 use lib.ListN.{drop}
 use lib.Seq.{length-take-le}
-use Rattle.serve.specs.declared.answer.Answer.the-variants.{Done, WrongSize}
+use Rattle.order.specs.declared.answer.Answer.the-variants.{Done, WrongSize}
 use Rattle.grammar.specs.Lines.{pooling}
 use Rattle.script.specs.Prints.{sized}
-use Rattle.script.specs.Turns.{extent-of}
+use Rattle.script.specs.Playing.{extent-of}
 use Rattle.script.proofs.Effects.{extent-most, no-extent, some-extent, pool-did, pool-refused}
 use Rattle.script.proofs.Outcomes.{played, pool-shows}
 use Rattle.script.proofs.playing.begin.Statement.{statement}
@@ -46,23 +46,15 @@ returns-2 c = λ s h.
     let a = st .args in
     let z : sized (a .n) ≡ true = some-extent (a .n) (λ k. e .if1 .left (x .extent .ensures ∙ k)) in
     rw (x .extent .ensures)
-    (played (pooling (a .n)) s (now (a .pool)) (a .nodes) (now (a .out)) (Done (a .n)) [] (a .n) (t .tell2 .result) (b .build .last .0 ++ drop (extent-of (a .n)) (now (a .pool))) (t .tell2 .last .0)
-    (pool-did s (now (a .pool)) (a .nodes) (a .n) (b .build .result) (b .build .last .0) (st .pre .0) h z (rw (x .extent .ensures) at (b .build .ensures)))
+    (played (pooling (a .n)) s (now (a .pool)) (a .nodes) (now (a .out)) (Done (a .n)) [] (a .n) (t .tell2 .result)
+    (b .build .last .0 ++ drop (extent-of (a .n)) (now (a .pool))) (t .tell2 .last .0)
+    (pool-did s (now (a .pool)) (a .nodes) (a .n) (b .build .result) (b .build .last .0) (st .pre .0) h z
+    (rw (x .extent .ensures) at (b .build .ensures)))
     (pool-shows (a .n) s) (t .tell2 .ensures))
 
 pub begin-spec : {M : Type 1} → statement M
 begin-spec =
     tie.close
     (tie.spec
-    (λ c κs. search needs)
-    (λ c κs. search needs)
-    (λ c. search needs)
-    returns
-    slice-relend-prefix-build
-    slice-aggregate-build
-    (λ c. search needs)
-    (λ c κs. search needs)
-    (λ c κs. search needs)
-    (λ c. search needs)
-    (λ c. search needs)
-    returns-2)
+    (λ c κs. search needs) (λ c κs. search needs) (λ c. search needs) returns slice-relend-prefix-build slice-aggregate-build (λ c. search needs)
+    (λ c κs. search needs) (λ c κs. search needs) (λ c. search needs) (λ c. search needs) returns-2)

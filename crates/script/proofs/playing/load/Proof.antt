@@ -7,7 +7,7 @@ use denote.Ref.{now}
 use lib.ListN.{drop, take}
 use lib.Seq.{length-take-le}
 use Rattle.grammar.specs.Lines.{loading}
-use Rattle.script.specs.Turns.{extent-of}
+use Rattle.script.specs.Playing.{extent-of}
 use Rattle.script.proofs.Effects.{extent-most, load-did}
 use Rattle.script.proofs.Outcomes.{load-shows, played}
 use Rattle.script.proofs.playing.load.Statement.{statement}
@@ -37,21 +37,16 @@ returns c = λ s h.
     let st = x .before .before .before .before in
     let a = st .args in
     rw (x .extent .ensures)
-    (played (loading (a .load .length) (take (a .load .count) (now (a .words)))) s (now (a .pool)) (a .nodes) (now (a .out)) (b .build .result) [] (a .nodes) (t .tell .result)
+    (played (loading (a .load .length) (take (a .load .count) (now (a .words)))) s (now (a .pool)) (a .nodes) (now (a .out)) (b .build .result) []
+    (a .nodes) (t .tell .result)
     (b .build .last .0 ++ drop (extent-of (a .nodes)) (now (a .pool))) (t .tell .last .0)
-    (load-did s (now (a .pool)) (a .nodes) (a .load .length) (take (a .load .count) (now (a .words))) (b .build .result) (b .build .last .0) (st .pre .0) h (rw (x .extent .ensures) at (b .build .ensures)))
+    (load-did s (now (a .pool)) (a .nodes) (a .load .length) (take (a .load .count) (now (a .words))) (b .build .result) (b .build .last .0)
+    (st .pre .0) h (rw (x .extent .ensures) at (b .build .ensures)))
     (load-shows (a .load .length) (take (a .load .count) (now (a .words))) s) (t .tell .ensures))
 
 pub load-spec : {M : Type 1} → statement M
 load-spec =
     tie.close
     (tie.spec
-    (λ c κs. search needs)
-    slice-relend-prefix-build
-    slice-aggregate-build
-    slice-aggregate-build-2
-    (λ c κs. search needs)
-    (λ c κs. search needs)
-    (λ c. search needs)
-    (λ c. search needs)
-    returns)
+    (λ c κs. search needs) slice-relend-prefix-build slice-aggregate-build slice-aggregate-build-2 (λ c κs. search needs) (λ c κs. search needs)
+    (λ c. search needs) (λ c. search needs) returns)

@@ -1,7 +1,7 @@
 -- A store is a text of one byte. Assumes nothing.
 use borrow.Author.Needs.{needs}
 use mathlib.Core.Path.{refl, sym}
-use Rattle.grammar.proofs.Putting.{over-one}
+use Rattle.text.proofs.Putting.{over-one}
 use Rattle.script.proofs.telling.put_byte.Statement.{statement}
 use Rattle.script.proofs.telling.put_byte.Tie as tie
 

@@ -4,13 +4,14 @@ use borrow.Author.Needs.{needs}
 use mathlib.Core.Path.{_∙_}
 use mathlib.Core.List.{[], _∷_}
 use denote.Ref.{now}
-use Rattle.grammar.specs.Text.{decimal-text}
+use Rattle.text.specs.Text.{decimal-text}
 use Rattle.script.proofs.Letters.{Put, space-room, two-put, value-room}
 use Rattle.script.proofs.telling.put_two.Statement.{statement}
 use Rattle.script.proofs.telling.put_two.Tie as tie
 
 -- the code is put
-code-put : (c : tie.After-put-decimal) → let s = c .before .before .before in Put 0 (decimal-text (s .args .code)) (now (s .args .out)) (c .put-decimal .result) (c .put-decimal .last .0)
+code-put : (c : tie.After-put-decimal) → let s = c .before .before .before in
+    Put 0 (decimal-text (s .args .code)) (now (s .args .out)) (c .put-decimal .result) (c .put-decimal .last .0)
 code-put c = record { ends = c .put-decimal .ensures .0; bytes = c .put-decimal .ensures .1 }
 
 -- and a space

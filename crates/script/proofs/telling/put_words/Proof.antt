@@ -1,4 +1,4 @@
--- After i turns the first i words are put. Assumes nothing.
+-- After i passes the first i words are put. Assumes nothing.
 use Prim.Native.Nat.{ℕ, _-_, _*_, _≤_}
 use native.Mathlib.Numerals.{add-one}
 use native.Mathlib.Omega.{arith}
@@ -7,8 +7,8 @@ use mathlib.Core.Path.{_≡_, ap, _∙_}
 use mathlib.Core.List.{[], _∷_}
 use lib.ListN.{length, take, getD}
 use lib.Seq.{length-take-le}
-use Rattle.grammar.specs.Text.{over}
-use Rattle.grammar.proofs.Putting.{hex-length}
+use Rattle.text.specs.Text.{over}
+use Rattle.text.proofs.Putting.{hex-length}
 use Rattle.script.specs.Prints.{words-text}
 use Rattle.script.proofs.Letters.{Put, before-room, put-length, put-none, word-put, word-room, words-text-length}
 use Rattle.script.proofs.telling.put_words.Statement.{statement}
@@ -28,10 +28,8 @@ put-byte-requires : tie.Need-put-byte-requires Inv-loop μ-loop
 put-byte-requires c κs =
     let l = c .before .before .loop in
     let s = c .before .before .before .before .before in
-    before-room (s .args .at) (l .i) (s .args .words .now) (s .args .out .now) (l .end) (l .out) (omega (arith, s .pre .0)) (omega (arith, s .pre .1)) (l .inv .1)
-
-mul-put-hex : tie.Need-mul-put-hex Inv-loop μ-loop
-mul-put-hex c = search needs
+    before-room (s .args .at) (l .i) (s .args .words .now) (s .args .out .now) (l .end) (l .out) (omega (arith, s .pre .0))
+    (omega (arith, s .pre .1)) (l .inv .1)
 
 shared-slice-read-put-hex : tie.Need-shared-slice-read-put-hex Inv-loop μ-loop
 shared-slice-read-put-hex c =
@@ -48,13 +46,8 @@ put-hex-requires c κs =
     let b = c .before .before .before .before in
     let l = b .before .before .before .loop in
     let s = b .before .before .before .before .before .before in
-    word-room (s .args .at) (l .i) (s .args .words .now) (s .args .out .now) (l .end) (l .out) (omega (arith, s .pre .0)) (omega (arith, s .pre .1)) (l .inv .1) _ _ (space-put b)
-
-add-i : tie.Need-add-i Inv-loop μ-loop
-add-i c = search needs
-
-loop-less : tie.Need-loop-less Inv-loop μ-loop
-loop-less c = omega arith
+    word-room (s .args .at) (l .i) (s .args .words .now) (s .args .out .now) (l .end) (l .out) (omega (arith, s .pre .0)) (omega (arith, s .pre .1))
+    (l .inv .1) _ _ (space-put b)
 
 loop-again : tie.Need-loop-again Inv-loop μ-loop
 loop-again c =
@@ -64,8 +57,13 @@ loop-again c =
     let s = b .before .before .before .before .before .before in (
       omega arith,
       rw (add-one (l .i))
-          (word-put (s .args .at) (l .i) (s .args .words .now) (s .args .out .now) (l .end) (l .out) (omega (arith, s .pre .0)) (omega (arith, s .pre .1)) (l .inv .1) _ _ (space-put b) _ _
-          (record { ends = h .put-hex .ensures .0 ∙ omega (arith, hex-length (getD (s .args .words .now) (l .i) 0)); bytes = h .put-hex .ensures .1 })),
+          (word-put (s .args .at) (l .i) (s .args .words .now) (s .args .out .now) (l .end) (l .out) (omega (arith, s .pre .0))
+          (omega (arith, s .pre .1)) (l .inv .1) _ _ (space-put b) _ _
+          (record {
+            ends = h .put-hex .ensures .0
+                ∙ omega (arith, hex-length (getD (s .args .words .now) (l .i) 0));
+            bytes = h .put-hex .ensures .1;
+          })),
     )
 
 -- the text so far is as long as its words
@@ -73,13 +71,15 @@ so-long : (c : tie.At-loop Inv-loop μ-loop) → let s = c .before .before .befo
     length (words-text (take (c .loop .i) (s .args .words .now))) ≡ 17 * c .loop .i
 so-long c =
     let s = c .before .before .before in
-    words-text-length (take (c .loop .i) (s .args .words .now)) ∙ omega (arith, length-take-le (c .loop .i) (s .args .words .now) (omega (arith, s .pre .0, c .loop .inv .0)))
+    words-text-length (take (c .loop .i) (s .args .words .now))
+    ∙ omega (arith, length-take-le (c .loop .i) (s .args .words .now) (omega (arith, s .pre .0, c .loop .inv .0)))
 
 same-length : tie.Need-same-length Inv-loop μ-loop
 same-length c =
     let l = c .before .loop in
     let s = c .before .before .before .before in
-    put-length (s .args .at) (words-text (take (l .i) (s .args .words .now))) (s .args .out .now) (l .end) (l .out) (l .inv .1) (omega (arith, so-long (c .before), s .pre .1, l .inv .0))
+    put-length (s .args .at) (words-text (take (l .i) (s .args .words .now))) (s .args .out .now) (l .end) (l .out) (l .inv .1)
+    (omega (arith, so-long (c .before), s .pre .1, l .inv .0))
 
 returns : tie.Need-returns Inv-loop μ-loop
 returns c =
@@ -94,15 +94,5 @@ pub put-words-spec : {M : Type 1} → statement M
 put-words-spec =
     tie.close
     (tie.spec
-    Inv-loop
-    μ-loop
-    loop-holds
-    put-byte-requires
-    mul-put-hex
-    shared-slice-read-put-hex
-    put-hex-requires
-    add-i
-    loop-less
-    loop-again
-    same-length
-    returns)
+    Inv-loop μ-loop loop-holds put-byte-requires (λ c. search needs) shared-slice-read-put-hex put-hex-requires (λ c. search needs)
+    (λ c. omega arith) loop-again same-length returns)

@@ -17,13 +17,15 @@ within : (c : tie.Else1) → let a = c .before .before .before .args in a .index
 within c = omega (arith, c .if1 .left)
 
 -- there is room, or there is none
-roomy : (c : tie.Then2) (end : ℕ) (p : Pool) → let a = c .before .before .before .before .before .before .args in ToServe (a .nodes .now) end (a .held) (a .may) p
+roomy : (c : tie.Then2) (end : ℕ) (p : Pool) → let a = c .before .before .before .before .before .before .args in
+    ToServe (a .nodes .now) end (a .held) (a .may) p
     → full (a .may) (a .index) p ≡ false
-roomy c end p s = not-true _ (sym (c .before .room .ensures p (to-ask s _ (within (c .before .before .before)))) ∙ c .if2 .taken)
+roomy c end p s = not-true _ (sym (c .before .room .ensures (to-ask s _ (within (c .before .before .before)))) ∙ c .if2 .taken)
 
-none-left : (c : tie.Else2) (end : ℕ) (p : Pool) → let a = c .before .before .before .before .before .before .args in ToServe (a .nodes .now) end (a .held) (a .may) p
+none-left : (c : tie.Else2) (end : ℕ) (p : Pool) → let a = c .before .before .before .before .before .before .args in
+    ToServe (a .nodes .now) end (a .held) (a .may) p
     → full (a .may) (a .index) p ≡ true
-none-left c end p s = not-false _ (sym (c .before .room .ensures p (to-ask s _ (within (c .before .before .before)))) ∙ c .if2 .left)
+none-left c end p s = not-false _ (sym (c .before .room .ensures (to-ask s _ (within (c .before .before .before)))) ∙ c .if2 .left)
 
 returns : tie.Need-returns
 returns c = λ end p s.
@@ -32,26 +34,28 @@ returns c = λ end p s.
     still s _ _ _ (c .unmoved .ensures) (out .0) (out .1)
 
 room-requires : tie.Need-room-requires
-room-requires c κs = let s = c .before .before .before .before .pre in (s .1, to-ask (s .2) _ (within (c .before)))
+room-requires c κs = let s = c .before .before .before .before .pre in to-ask (s .2) _ (within (c .before))
 
 insert-requires : tie.Need-insert-requires
 insert-requires c κs =
     let s = c .before .before .before .before .before .before .before .before .pre in
-    (s .0, s .1 .tree, s .1 .free, to-insert (s .2) _ (within (c .before .before .before .before .before)) (roomy (c .before .before) (s .0) (s .1) (s .2)))
+    to-insert (s .2) _ (within (c .before .before .before .before .before)) (roomy (c .before .before) (s .0) (s .1) (s .2))
 
 add-t16 : tie.Need-add-t16
-add-t16 c = let s = c .before .before .before .before .before .before .before .before .before .before .before .before .pre in omega (arith, s .2 .total, s .2 .site .few)
+add-t16 c = let s = c .before .before .before .before .before .before .before .before .before .before .before .before .pre in
+    omega (arith, s .2 .total, s .2 .site .few)
 
 returns-2 : tie.Need-returns-2
 returns-2 c = λ end p s.
     let inside = within (c .before .before .before .before .before .before .before .before .before) in
     let room = roomy (c .before .before .before .before .before .before) end p s in
-    inserted s _ _ _ inside room (c .before .before .before .insert .ensures end (p .tree) (p .free) (to-insert s _ inside room))
+    inserted s _ _ _ inside room (c .before .before .before .insert .ensures (to-insert s _ inside room))
 
 returns-3 : tie.Need-returns-3
 returns-3 c = λ end p s.
     let a = c .before .before .before .before .before .before .before .args in
-    let full = insert-full (a .may) (a .index) (a .bit) p (omega (arith, s .total, within (c .before .before .before .before))) (none-left (c .before) end p s) in
+    let full = insert-full (a .may) (a .index) (a .bit) p (omega (arith, s .total, within (c .before .before .before .before)))
+    (none-left (c .before) end p s) in
     still s _ _ _ (c .unmoved2 .ensures) (full .0) (full .1)
 
 pub insert-at-spec : {M : Type 1} → statement M

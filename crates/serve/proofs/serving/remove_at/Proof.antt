@@ -1,7 +1,7 @@
 -- The place is beyond the marks; else the tree and the chain are changed. Assumes nothing.
 use native.Mathlib.Omega.{arith}
 use borrow.Author.Needs.{needs}
-use Rattle.serve.proofs.Edits.{removed, still, to-take}
+use Rattle.serve.proofs.Edits.{removed, still, to-remove}
 use Rattle.serve.proofs.Orderly.{remove-out}
 use Rattle.serve.proofs.serving.remove_at.Statement.{statement}
 use Rattle.serve.proofs.serving.remove_at.Tie as tie
@@ -13,21 +13,15 @@ returns c = λ end p s.
     still s _ _ _ (c .unmoved .ensures) (out .0) (out .1)
 
 remove-requires : tie.Need-remove-requires
-remove-requires c κs = let s = c .before .before .before .before .before .pre in (s .1 .tree, s .1 .free, s .0, to-take (s .2) _ (c .before .before .if1 .left))
+remove-requires c κs = let s = c .before .before .before .before .before .pre in to-remove (s .2) _ (c .before .before .if1 .left)
 
 returns-2 : tie.Need-returns-2
 returns-2 c = λ end p s.
     let within = c .before .before .before .before .before .before .before .before .if1 .left in
-    removed s _ _ within (c .before .before .before .before .before .remove .ensures (p .tree) (p .free) end (to-take s _ within))
+    removed s _ _ within (c .before .before .before .before .before .remove .ensures (to-remove s _ within))
 
 pub remove-at-spec : {M : Type 1} → statement M
 remove-at-spec =
     tie.close
     (tie.spec
-    (λ c κs. search needs)
-    returns
-    remove-requires
-    (λ c. search needs)
-    (λ c. search needs)
-    (λ c. search needs)
-    returns-2)
+    (λ c κs. search needs) returns remove-requires (λ c. search needs) (λ c. search needs) (λ c. search needs) returns-2)

@@ -3,7 +3,8 @@ use native.Mathlib.Omega.{arith}
 use borrow.Author.Needs.{needs}
 use mathlib.Core.Path.{_≡_, sym, ap, _∙_}
 use Rattle.model.specs.Tree.{Tree, marks}
-use Rattle.serve.specs.Orders.{list-answer, selecting}
+use Rattle.order.specs.Asked.{selecting}
+use Rattle.order.specs.Plain.{list-answer}
 use Rattle.serve.specs.Serving.{Grown}
 use Rattle.serve.proofs.Orderly.{select-done, select-first, told-place}
 use Rattle.serve.proofs.serving.select_at.Statement.{statement}
@@ -26,18 +27,5 @@ returns-2 c = λ t g. ap told-place (sym (c .before .at .given .1)) ∙ found (c
 returns-3 : tie.Need-returns-3
 returns-3 c = λ t g. ap told-place (sym (c .enum-told .given .1)) ∙ found (c .before .before) t g
 
-returns-4 : tie.Need-returns-4
-returns-4 c = λ t g. ap told-place (sym (c .enum-told2 .given .1)) ∙ found (c .before .before) t g
-
 pub select-at-spec : {M : Type 1} → statement M
-select-at-spec =
-    tie.close
-    (tie.spec
-    returns
-    select-requires
-    (λ c. search needs)
-    (λ c. search needs)
-    (λ c. search needs)
-    returns-2
-    returns-3
-    returns-4)
+select-at-spec = tie.close (tie.spec returns select-requires (λ c. search needs) (λ c. search needs) returns-2 returns-3)

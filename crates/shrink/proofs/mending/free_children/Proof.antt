@@ -5,7 +5,10 @@ use Rattle.shrink.proofs.mending.free_children.Statement.{statement}
 use Rattle.shrink.proofs.mending.free_children.Tie as tie
 
 returns : tie.Need-returns
-returns c = (refl, cc (c .before .before .before .before .before .before .set-free .ensures, c .before .before .set-free2 .ensures))
+returns c =
+    let second = c .before .before in
+    let first = second .before .before .before .before in
+    (refl, rw (first .set-free .ensures) at (second .set-free2 .ensures))
 
 pub free-children-spec : {M : Type 1} → statement M
 free-children-spec = tie.close (tie.spec (λ c κs. search needs) (λ c κs. search needs) (λ c. search needs) returns)

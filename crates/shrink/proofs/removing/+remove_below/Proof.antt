@@ -1,17 +1,20 @@
--- A leaf loses the mark; a fork's child does, the fork counts it no more, and then it is mended, left as it is, or balanced. Assumes nothing.
+-- A leaf loses the mark; a fork's child does, the fork counts it no more, and then it is mended, left as it is, or
+-- balanced. Assumes nothing.
+use Prim.Native.Nat.{ℕ, _<_}
 use native.Mathlib.Omega.{arith}
-use mathlib.Core.Path.{_≡_, sym, _∙_}
+use mathlib.Core.Path.{_≡_, sym, ap, _∙_}
 use borrow.Author.Needs.{needs}
 use denote.Ref.{now}
-use lib.IntN.{pos}
 use mir.Syntax.{w64}
-use mir.ValLaws.{toZ-ofZ}
-use Rattle.pool.specs.Node.{node-at}
+use mir.Val.{toZ}
+use Rattle.pool.specs.Node.{as-node, node-at}
 use Rattle.pool.specs.declared.node.Node.the-variants as Node
-use Rattle.pool.proofs.Standing.{not-free, not-broken, rooted-node}
-use Rattle.turn.proofs.Differences.{alike}
-use Rattle.shrink.proofs.Descending.{gone-held, removed-at-leaf, remove-level, left-within, remove-below-fork, counted-below, stale-below, level-after, leveled-after, mend-below, mended-after}
-use Prim.Native.Nat.{ℕ, _<_}
+use Rattle.pool.proofs.Standing.{rooted-node}
+use Rattle.turn.proofs.Differences.{held}
+use Rattle.descent.proofs.Down.{Stepped, fork-level, left-within}
+use Rattle.shrink.specs.Removing.{Gone, ToRemove}
+use Rattle.shrink.proofs.Descending.{gone-held, remove-level, remove-leveled, remove-mended, remove-stale, removed-at-leaf}
+use Rattle.shrink.proofs.Descending.{to-child, to-mend, to-uncount}
 use borrow.Fn.Kinds.{In}
 use borrow.Fn.PlainCycle.{Measures, is, falls, and}
 use Rattle.shrink.proofs.removing.remove_below.Reads as remove-below
@@ -65,162 +68,143 @@ claims t = (
   child-changed-reads.Learnt,
 )
 
--- the fork that was read
-read : (t : ℕ) (c : remove-below-lts.After-fork (claims t) (remove-below-at t) remove-below.Post)
-    → let a = c .before .before .before .before .before .args in node-at (now (a .nodes)) (a .n) ≡ Node.Fork (c .fork .given .0 .0)
-read t c = sym (c .before .before .leaf-or-fork .ensures) ∙ c .fork .given .1
+module _ (t : ℕ) where
+  -- ---- places, and how they are reached
 
-leaf-or-fork-requires : (t : ℕ) → remove-below-lts.Need-leaf-or-fork-requires (claims t) (remove-below-at t) remove-below.Post
-leaf-or-fork-requires t c κs = let p = c .before .before .pre .1 in rooted-node (p .0) (p .3 .site .rooted)
+  abbrev Start : Type 0
+  Start = remove-below-lts.Start (claims t) (remove-below-at t) remove-below.Post
 
-toward-requires : (t : ℕ) → remove-below-lts.Need-toward-requires (claims t) (remove-below-at t) remove-below.Post
-toward-requires t c κs =
-    let p = c .before .before .before .before .before .before .pre .1 in
-    left-within (p .0) (p .1) (p .3) (read t (c .before))
+  abbrev Fork-read : Type 0
+  Fork-read = remove-below-lts.After-fork (claims t) (remove-below-at t) remove-below.Post
 
-sub-remove-below : (t : ℕ) → remove-below-lts.Need-sub-remove-below (claims t) (remove-below-at t) remove-below.Post
-sub-remove-below t c =
-    let way = c .before .before .before in
-    let p = way .before .before .before .before .before .before .before .pre .1 in
-    remove-level (p .0) (p .1) (p .3) (read t (way .before .before))
+  abbrev Way-known : Type 0
+  Way-known = remove-below-lts.After-toward (claims t) (remove-below-at t) remove-below.Post
 
-remove-below-requires : (t : ℕ) → remove-below-lts.Need-remove-below-requires (claims t) (remove-below-at t) remove-below.Post
-remove-below-requires t c κs =
-    let way = c .before .before .before in
-    let step = way .toward in
-    let pre = way .before .before .before .before .before .before .before .pre in
-    let p = pre .1 in
-    let fork = read t (way .before .before) in
-    let u = remove-below-fork (step .result) fork (step .ensures .0) (step .ensures .1) (p .1) (p .0) (p .3) in
-    (omega (arith, pre .0, remove-level (p .0) (p .1) (p .3) fork), (u .0, p .1, p .2, u .1))
+  abbrev Child-done : Type 0
+  Child-done = remove-below-lts.After-remove-below (claims t) (remove-below-at t) remove-below.Post
 
-uncount-requires : (t : ℕ) → remove-below-lts.Need-uncount-requires (claims t) (remove-below-at t) remove-below.Post
-uncount-requires t c κs =
-    let call = c .before .before .before in
-    let way = call .before .before .before .before in
-    let step = way .toward in
-    let p = way .before .before .before .before .before .before .before .pre .1 in
-    counted-below (step .result) (read t (way .before .before)) (step .ensures .0) (step .ensures .1) (p .1)
-    (λ u k. call .remove-below .ensures u (p .1) (p .2) k) (p .0) (p .3)
+  abbrev Uncounted : Type 0
+  Uncounted = remove-below-lts.After-uncount (claims t) (remove-below-at t) remove-below.Post
 
-sub-mend : (t : ℕ) → remove-below-lts.Need-sub-mend (claims t) (remove-below-at t) remove-below.Post
-sub-mend t c =
-    let past = c .before .before .before .before .before .before in
-    let p = past .before .before .before .before .before .before .before .before .before .before .before .before .before .before .before .pre .1 in
-    omega (arith, p .3 .within)
+  abbrev read-start : Fork-read → Start
+  read-start c = c .before .before .before .before .before
 
-sub-mend-2 : (t : ℕ) → remove-below-lts.Need-sub-mend-2 (claims t) (remove-below-at t) remove-below.Post
-sub-mend-2 t c =
-    let past = c .before .before .before .before .before .before in
-    let call = past .before .before .before .before in
-    let way = call .before .before .before .before in
-    let step = way .toward in
-    let p = way .before .before .before .before .before .before .before .pre .1 in
-    remove-level (p .0) (p .1) (p .3) (read t (way .before .before))
+  abbrev way-start : Way-known → Start
+  way-start c = read-start (c .before .before)
 
-mend-requires : (t : ℕ) → remove-below-lts.Need-mend-requires (claims t) (remove-below-at t) remove-below.Post
-mend-requires t c κs =
-    let past = c .before .before .before .before .before .before in
-    let call = past .before .before .before .before in
-    let way = call .before .before .before .before in
-    let step = way .toward in
-    let p = way .before .before .before .before .before .before .before .pre .1 in
-    let m = mend-below (step .result) (read t (way .before .before)) (step .ensures .0) (step .ensures .1) (p .1)
-    (λ v k. call .remove-below .ensures v (p .1) (p .2) k) (past .uncount .ensures) (p .0) (p .3) (c .before .before .if1 .taken) in
-    (m .0, m .1, p .1, p .2, m .2, m .3)
+  abbrev done-way : Child-done → Way-known
+  done-way c = c .before .before .before .before
 
-returns : (t : ℕ) → remove-below-lts.Need-returns (claims t) (remove-below-at t) remove-below.Post
-returns t c = λ u free end q.
-    let m = c .before .before .mend in
-    let test = c .before .before .before .before .before in
-    let past = test .before .before .before .before in
-    let call = past .before .before .before .before in
-    let way = call .before .before .before .before in
-    let step = way .toward in
-    gone-held (m .result) (record { sfits = m .ok })
-    (mended-after (step .result) (read t (way .before .before)) (step .ensures .0) (step .ensures .1) free
-    (λ v k. call .remove-below .ensures v free end k) (past .uncount .ensures) u q (test .if1 .taken)
-    (λ l r k e. m .ensures l r free end k e))
+  abbrev done-start : Child-done → Start
+  done-start c = way-start (done-way c)
 
-returns-2 : (t : ℕ) → remove-below-lts.Need-returns-2 (claims t) (remove-below-at t) remove-below.Post
-returns-2 t c = λ u free end q.
-    let past = c .before .before .before .before .before in
-    let call = past .before .before .before .before in
-    let way = call .before .before .before .before in
-    let step = way .toward in
-    let b = call .remove-below in
-    level-after (step .result) (read t (way .before .before)) (step .ensures .0) (step .ensures .1) free
-    (λ v k. call .remove-below .ensures v free end k) (past .uncount .ensures) u q (c .before .if1 .left)
-    (alike (b .result) (pos 0) (record { sfits = b .ok }) (record { sfits = omega arith }) (c .if2 .taken))
+  abbrev off-done : Uncounted → Child-done
+  off-done c = c .before .before .before .before
 
-child-changed-requires : (t : ℕ) → remove-below-lts.Need-child-changed-requires (claims t) (remove-below-at t) remove-below.Post
-child-changed-requires t c κs =
-    let past = c .before .before .before .before .before .before in
-    let call = past .before .before .before .before in
-    let way = call .before .before .before .before in
-    let step = way .toward in
-    let p = way .before .before .before .before .before .before .before .pre .1 in
-    let b = call .remove-below in
-    let m = stale-below (step .result) (read t (way .before .before)) (step .ensures .0) (step .ensures .1) (p .1)
-    (λ v k. call .remove-below .ensures v (p .1) (p .2) k) (past .uncount .ensures) (p .0) (p .3) in
-    (m .0, m .1, m .2, m .3, rw (toZ-ofZ w64 (b .result) (record { sfits = b .ok })) (m .4))
+  -- ---- what is known there
 
-returns-3 : (t : ℕ) → remove-below-lts.Need-returns-3 (claims t) (remove-below-at t) remove-below.Post
-returns-3 t c = λ u free end q.
-    let set = c .before .before .before in
-    let leaf = set .before .before .before .before in
-    removed-at-leaf (sym (leaf .before .before .leaf-or-fork .ensures) ∙ leaf .leaf .given .1)
-    (set .before .remove .ensures) (set .set-leaf .ensures) (c .bit-at .ensures) u free q
+  abbrev Given : Start → Type 0
+  Given s = ToRemove (now (s .args .nodes)) (s .args .n) (s .args .levels) (now (s .args .head)) (s .args .length) (s .args .index)
 
-returns-4 : (t : ℕ) → remove-below-lts.Need-returns-4 (claims t) (remove-below-at t) remove-below.Post
-returns-4 t c = λ u free end q.
-    let d = c .before .before .child-changed in
-    let test = c .before .before .before .before .before in
-    let past = test .before .before .before .before in
-    let call = past .before .before .before .before in
-    let way = call .before .before .before .before in
-    let step = way .toward in
-    let b = call .remove-below in
-    gone-held (d .result) (record { sfits = d .ok })
-    (leveled-after (step .result) (read t (way .before .before)) (step .ensures .0) (step .ensures .1) free
-    (λ v k. call .remove-below .ensures v free end k) (past .uncount .ensures) u q (test .if1 .left)
-    (λ l r was k a. d .ensures l r was k (rw (toZ-ofZ w64 (b .result) (record { sfits = b .ok })) a)))
+  read : (c : Fork-read) → node-at (now (read-start c .args .nodes)) (read-start c .args .n) ≡ Node.Fork (c .fork .given .0 .0)
+  read c = sym (c .before .before .leaf-or-fork .ensures) ∙ ap as-node (c .fork .given .1)
 
-returns-5 : (t : ℕ) → remove-below-lts.Need-returns-5 (claims t) (remove-below-at t) remove-below.Post
-returns-5 t c = λ u free end q. not-free u _ (q .site .rooted) (sym (c .before .before .leaf-or-fork .ensures) ∙ c .enum-told .given .1)
+  -- the step to the child
+  step : (c : Way-known) → let a = way-start c .args in
+      Stepped (now (a .nodes)) (a .n) (a .length) (a .index) (c .before .before .fork .given .0 .0) (c .toward .result)
+  step c =
+      record { read = read (c .before .before); toward = record { to-left = c .toward .ensures .0; to-right = c .toward .ensures .1 } }
 
-returns-6 : (t : ℕ) → remove-below-lts.Need-returns-6 (claims t) (remove-below-at t) remove-below.Post
-returns-6 t c = λ u free end q. not-broken u (q .site .rooted) (sym (c .before .before .leaf-or-fork .ensures) ∙ c .enum-told2 .given .1)
+  -- what the call on the child left, with its change as a word
+  done : (c : Child-done) (b : Given (done-start c)) → let call = c .remove-below in
+      Gone (to-child (step (done-way c)) b) (call .last .0) (call .last .1 .0) (held (call .result)) (call .last .1 .1 .0)
+  done c b =
+      gone-held (c .remove-below .result) (record { sfits = c .remove-below .ok })
+      (c .remove-below .ensures (to-child (step (done-way c)) b))
+
+  -- ---- needs
+
+  leaf-or-fork-requires : remove-below-lts.Need-leaf-or-fork-requires (claims t) (remove-below-at t) remove-below.Post
+  leaf-or-fork-requires c κs = let b = c .before .before .pre .1 in rooted-node (b .at .tree) (b .at .site .rooted)
+
+  toward-requires : remove-below-lts.Need-toward-requires (claims t) (remove-below-at t) remove-below.Post
+  toward-requires c κs =
+      let b = read-start (c .before) .pre .1 in
+      left-within (b .at .site .rooted) (read (c .before)) (b .at .total-is)
+
+  sub-below : remove-below-lts.Need-sub-below (claims t) (remove-below-at t) remove-below.Post
+  sub-below c = fork-level (way-start c .pre .1 .at .site .rooted) (step c .read)
+
+  remove-below-requires : remove-below-lts.Need-remove-below-requires (claims t) (remove-below-at t) remove-below.Post
+  remove-below-requires c κs =
+      let way = c .before .before .before in
+      let pre = way-start way .pre in
+      (omega (arith, pre .0, fork-level (pre .1 .at .site .rooted) (step way .read)), to-child (step way) (pre .1))
+
+  uncount-requires : remove-below-lts.Need-uncount-requires (claims t) (remove-below-at t) remove-below.Post
+  uncount-requires c κs =
+      let call = c .before .before .before in
+      let b = done-start call .pre .1 in
+      to-uncount (step (done-way call)) b (done call b)
+
+  sub-mend : remove-below-lts.Need-sub-mend (claims t) (remove-below-at t) remove-below.Post
+  sub-mend c =
+      let b = done-start (off-done (c .before .before .before .before .before .before)) .pre .1 in
+      omega (arith, b .within)
+
+  mend-requires : remove-below-lts.Need-mend-requires (claims t) (remove-below-at t) remove-below.Post
+  mend-requires c κs =
+      let off = c .before .before .before .before .before .before in
+      let call = off-done off in
+      let b = done-start call .pre .1 in
+      to-mend (step (done-way call)) b (done call b) (off .uncount .ensures) (c .before .before .if1 .taken)
+
+  returns : remove-below-lts.Need-returns (claims t) (remove-below-at t) remove-below.Post
+  returns c = λ b.
+      let m = c .before .before .mend in
+      let short = c .before .before .before .before .before in
+      let off = short .before .before .before .before in
+      let call = off-done off in
+      let way = step (done-way call) in
+      let few = short .if1 .taken in
+      let stored = off .uncount .ensures in
+      gone-held (m .result) (record { sfits = m .ok })
+      (remove-mended way b (done call b) stored few (m .ensures (to-mend way b (done call b) stored few)))
+
+  returns-2 : remove-below-lts.Need-returns-2 (claims t) (remove-below-at t) remove-below.Post
+  returns-2 c = λ b.
+      let off = c .before .before .before .before .before in
+      let call = off-done off in
+      remove-level (step (done-way call)) b (done call b) (off .uncount .ensures) (c .before .if1 .left) (ap (toZ w64) (c .if2 .taken))
+
+  child-changed-requires : remove-below-lts.Need-child-changed-requires (claims t) (remove-below-at t) remove-below.Post
+  child-changed-requires c κs =
+      let long = c .before .before in
+      let off = long .before .before .before .before in
+      let call = off-done off in
+      let b = done-start call .pre .1 in
+      remove-stale (step (done-way call)) b (done call b) (off .uncount .ensures) (long .if1 .left)
+
+  returns-3 : remove-below-lts.Need-returns-3 (claims t) (remove-below-at t) remove-below.Post
+  returns-3 c = λ b.
+      let set = c .before .before .before in
+      let leaf = set .before .before .before .before in
+      removed-at-leaf b (sym (leaf .before .before .leaf-or-fork .ensures) ∙ ap as-node (leaf .leaf .given .1))
+      (set .before .remove .ensures) (set .set-leaf .ensures) (c .bit-at .ensures)
+
+  returns-4 : remove-below-lts.Need-returns-4 (claims t) (remove-below-at t) remove-below.Post
+  returns-4 c = λ b.
+      let d = c .before .before .child-changed in
+      let long = c .before .before .before .before .before in
+      let off = long .before .before .before .before in
+      let call = off-done off in
+      gone-held (d .result) (record { sfits = d .ok })
+      (remove-leveled (step (done-way call)) b (done call b) (off .uncount .ensures) (long .if1 .left) (d .ensures))
 
 pub +remove-below-spec : {M : Type 1} → statement M
-+remove-below-spec = close μ-remove-below λ t. remove-below-lts.spec (claims t)
-    (remove-below-at t)
-    remove-below.Post
-    (leaf-or-fork-requires t)
-    (λ c. search needs)
-    (λ c κs. search needs)
-    (λ c κs. search needs)
-    (λ c κs. search needs)
-    (λ c. search needs)
-    (toward-requires t)
-    (sub-remove-below t)
-    (remove-below-requires t)
-    (uncount-requires t)
-    (sub-mend t)
-    (sub-mend-2 t)
-    (mend-requires t)
-    (λ c. search needs)
-    (returns t)
-    (λ c. search needs)
-    (returns-2 t)
-    (child-changed-requires t)
-    (λ c. search needs)
-    (λ c. search needs)
-    (λ c. search needs)
-    (returns-3 t)
-    (λ c. search needs)
-    (returns-4 t)
-    (λ c. search needs)
-    (returns-5 t)
-    (λ c. search needs)
-    (returns-6 t)
++remove-below-spec =
+    close μ-remove-below λ t. remove-below-lts.spec (claims t) (remove-below-at t) remove-below.Post
+    (leaf-or-fork-requires t) (λ c. search needs) (λ c κs. search needs) (λ c κs. search needs) (λ c κs. search needs)
+    (λ c. search needs) (toward-requires t) (sub-below t) (remove-below-requires t) (uncount-requires t)
+    (sub-mend t) (mend-requires t) (λ c. search needs) (returns t) (λ c. search needs) (returns-2 t)
+    (child-changed-requires t) (λ c. search needs) (returns-3 t) (λ c. search needs) (returns-4 t)

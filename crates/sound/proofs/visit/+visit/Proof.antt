@@ -34,19 +34,33 @@ abbrev visit-below : ℕ → In 2 visit-kinds.ps
 visit-below t = and 2 visit-kinds.ps (falls 2 visit-kinds.ps _<_ μ-visit t) visit.Pre
 
 abbrev claims : ℕ → visit-lts.Claims
-claims t = (meet-reads.Asked, meet-reads.Learnt, node-at-reads.Asked, node-at-reads.Learnt, leaf-seen-reads.Asked, leaf-seen-reads.Learnt, visit-below t, visit.Post, fork-seen-reads.Asked, fork-seen-reads.Learnt)
+claims t = (
+  meet-reads.Asked,
+  meet-reads.Learnt,
+  node-at-reads.Asked,
+  node-at-reads.Learnt,
+  leaf-seen-reads.Asked,
+  leaf-seen-reads.Learnt,
+  visit-below t,
+  visit.Post,
+  fork-seen-reads.Asked,
+  fork-seen-reads.Learnt,
+)
 
 -- the node was fresh and has been marked
-met-now : (t : ℕ) (c : visit-lts.Else1 (claims t) (visit-at t) visit.Post) → let meets = c .before .before .before in let s = meets .before .before .before .before .args in
+met-now : (t : ℕ) (c : visit-lts.Else1 (claims t) (visit-at t) visit.Post)
+    → let meets = c .before .before .before in let s = meets .before .before .before .before .args in
     Fresh (now (s .met)) (s .n ∷ []) × Marked (now (s .met)) (meets .meet .last .0) (s .n ∷ [])
 met-now t c = c .before .before .before .meet .ensures .yes (not-false _ (c .if1 .left))
 
 -- what was read there
-leaf-there : (t : ℕ) (c : visit-lts.After-leaf (claims t) (visit-at t) visit.Post) → let s = c .before .before .before .before .before .before .before .before .before .before .args in
+leaf-there : (t : ℕ) (c : visit-lts.After-leaf (claims t) (visit-at t) visit.Post)
+    → let s = c .before .before .before .before .before .before .before .before .before .before .args in
     node-at (now (s .nodes)) (s .n) ≡ leaf (c .leaf .given .0 .0)
 leaf-there t c = sym (c .before .before .node-at .ensures) ∙ c .leaf .given .1
 
-fork-there : (t : ℕ) (c : visit-lts.After-fork (claims t) (visit-at t) visit.Post) → let s = c .before .before .before .before .before .before .before .before .before .before .args in
+fork-there : (t : ℕ) (c : visit-lts.After-fork (claims t) (visit-at t) visit.Post)
+    → let s = c .before .before .before .before .before .before .before .before .before .before .args in
     node-at (now (s .nodes)) (s .n) ≡ fork (c .fork .given .0 .0)
 fork-there t c = sym (c .before .before .node-at .ensures) ∙ c .fork .given .1
 
@@ -100,7 +114,8 @@ visit-fork-seen-requires t c κs =
     let here = there .before .before .before in
     let m = met-now t here in
     let start = here .before .before .before .before .before .before .before in
-    children-room (there .fork .given .0 .0) (fork-there t there) (m .0) (m .1) (first .visit .ensures) (second .visit2 .ensures) (left .left .given .0 .0) (right .right .given .0 .0) (left .left .given .1) (right .right .given .1)
+    children-room (there .fork .given .0 .0) (fork-there t there) (m .0) (m .1) (first .visit .ensures) (second .visit2 .ensures)
+    (left .left .given .0 .0) (right .right .given .0 .0) (left .left .given .1) (right .right .given .1)
     (start .pre .1 .0) (start .pre .1 .1) (room .if3 .left) (start .fits .total .fits)
 
 visit-same-length-4 : (t : ℕ) → visit-lts.Need-same-length-4 (claims t) (visit-at t) visit.Post
@@ -116,7 +131,8 @@ visit-same-length-5 : (t : ℕ) → visit-lts.Need-same-length-5 (claims t) (vis
 visit-same-length-5 t c =
     let second = c .before .before .before .before .before .before in
     let first = second .before .before .before .before .before .before .before in
-    second .visit2 .kept .1 .0 ∙ first .visit .kept .1 .0 ∙ first .before .before .before .before .before .before .before .before .before .before .before .meet .kept .0
+    second .visit2 .kept .1 .0 ∙ first .visit .kept .1 .0
+    ∙ first .before .before .before .before .before .before .before .before .before .before .before .meet .kept .0
 
 visit-returns-5 : (t : ℕ) → visit-lts.Need-returns-5 (claims t) (visit-at t) visit.Post
 visit-returns-5 t c =
@@ -128,14 +144,16 @@ visit-returns-5 t c =
     let there = room .before .before .before in
     let here = there .before .before .before in
     let m = met-now t here in
-    visited-fork (there .fork .given .0 .0) (fork-there t there) (m .0) (m .1) (first .visit .ensures) (second .visit2 .ensures) (left .left .given .0 .0) (right .right .given .0 .0) (left .left .given .1) (right .right .given .1)
+    visited-fork (there .fork .given .0 .0) (fork-there t there) (m .0) (m .1) (first .visit .ensures) (second .visit2 .ensures)
+    (left .left .given .0 .0) (right .right .given .0 .0) (left .left .given .1) (right .right .given .1)
     (c .fork-seen .ensures) (omega (arith, room .before .if2)) (room .if3 .left)
 
 visit-same-length-6 : (t : ℕ) → visit-lts.Need-same-length-6 (claims t) (visit-at t) visit.Post
 visit-same-length-6 t c =
     let second = c .before .before .before .before in
     let first = second .before .before .before .before .before .before .before in
-    second .visit2 .kept .1 .0 ∙ first .visit .kept .1 .0 ∙ first .before .before .before .before .before .before .before .before .before .before .before .meet .kept .0
+    second .visit2 .kept .1 .0 ∙ first .visit .kept .1 .0
+    ∙ first .before .before .before .before .before .before .before .before .before .before .before .meet .kept .0
 
 visit-returns-6 : (t : ℕ) → visit-lts.Need-returns-6 (claims t) (visit-at t) visit.Post
 visit-returns-6 t c =
@@ -145,7 +163,8 @@ visit-returns-6 t c =
     let there = room .before .before .before in
     let here = there .before .before .before in
     let m = met-now t here in
-    visited-right (there .fork .given .0 .0) (fork-there t there) (m .0) (m .1) (first .visit .ensures) (second .visit2 .ensures) (c .enum-told .given .1)
+    visited-right (there .fork .given .0 .0) (fork-there t there) (m .0) (m .1) (first .visit .ensures) (second .visit2 .ensures)
+    (c .enum-told .given .1)
 
 visit-same-length-7 : (t : ℕ) → visit-lts.Need-same-length-7 (claims t) (visit-at t) visit.Post
 visit-same-length-7 t c =

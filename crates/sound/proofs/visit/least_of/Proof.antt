@@ -18,4 +18,5 @@ returns-4 c = rw (← c .before .before .node-at .ensures, c .enum-told4 .given 
 pub least-of-spec : {M : Type 1} → statement M
 least-of-spec =
     tie.close
-    (tie.spec (λ c κs. search needs) (λ c. search needs) (λ c. search needs) (λ c. search needs) (λ c. search needs) returns returns-2 returns-3 returns-4)
+    (tie.spec (λ c κs. search needs) (λ c. search needs) (λ c. search needs) (λ c. search needs)
+    (λ c. search needs) returns returns-2 returns-3 returns-4)

@@ -7,9 +7,6 @@ use Rattle.tree.specs.Query.{found-at}
 use Rattle.tree.proofs.query.placed.Statement.{statement}
 use Rattle.tree.proofs.query.placed.Tie as tie
 
-enum-known-place : tie.Need-enum-known-place
-enum-known-place c = search needs
-
 add-found : tie.Need-add-found
 add-found c = record { fits = rw (c .before .place .given .1) at (c .before .before .before .pre) }
 
@@ -19,14 +16,8 @@ returns c =
     let at = c .before .before .place .given in
     rw (at .1, found-at, lt-ltb (a .before + at .0 .0) (a .length) (omega (arith, c .if1 .taken)))
 
-enum-told : tie.Need-enum-told
-enum-told c = search needs
-
 returns-2 : tie.Need-returns-2
 returns-2 c = rw (c .before .before .place .given .1, found-at, le-ltb _ _ (c .if1 .left))
 
-returns-3 : tie.Need-returns-3
-returns-3 c = search needs
-
 pub placed-spec : {M : Type 1} → statement M
-placed-spec = tie.close (tie.spec enum-known-place add-found returns enum-told returns-2 returns-3)
+placed-spec = tie.close (tie.spec (λ c. search needs) add-found returns (λ c. search needs) returns-2 (λ c. search needs))

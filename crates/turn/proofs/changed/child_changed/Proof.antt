@@ -9,11 +9,12 @@ use Rattle.model.specs.Tree.{Tree, height}
 use Rattle.model.specs.Turn as Turn
 use Rattle.pool.specs.Layout.{fork-of}
 use Rattle.pool.specs.Node.{Put}
+use Rattle.pool.specs.declared.node.Fork.{Fork}
 use Rattle.pool.specs.declared.node.Node.the-variants as Node
 use Rattle.turn.specs.Apart.{Apart}
-use Rattle.turn.specs.Sites.{Stale, side}
+use Rattle.turn.specs.Sites.{Stale, Stores, side}
 use Rattle.turn.specs.Words.{Evened, Uneven}
-use Rattle.turn.proofs.Changing.{Reading, reading, seen-back, by-side, higher-side, left-most, right-most, balance-told, set-right, put-right, uneven, evened-near, leveled}
+use Rattle.turn.proofs.Changing.{evened-near, higher-side, leveled, put-right, set-right, stale-stores, uneven}
 use Rattle.turn.proofs.Differences.{same, none, within, sum, minus, fits, kept, read, held}
 use Rattle.turn.proofs.Read.{fork-height}
 use Rattle.turn.proofs.changed.child_changed.Statement.{statement}
@@ -44,72 +45,57 @@ module _ (s : tie.Start) (g : Given s) where
   abbrev high-after : ℕ
   high-after = suc (max own other)
 
--- the entry, from the places of the code at which something is learnt
-abbrev start-read : tie.After-fork-at → tie.Start
-start-read c = c .before .before .before
+-- the places of the code at which something is learnt, each from a later one
+abbrev start : tie.After-seen → tie.Start
+start c = c .before .before .before .before
 
-abbrev start-seen : tie.After-seen-from → tie.Start
-start-seen c = c .before .before .before .before .before
+abbrev at-seen : tie.After-set-fork → tie.After-seen
+at-seen c = c .before .before .before .before
 
-abbrev start-set : tie.After-set-fork → tie.Start
-start-set c = c .before .before .before .before .before .before .before .before .before
+abbrev at-set : tie.After-above2 → tie.After-set-fork
+at-set c = c .before .before .before .before
 
-abbrev start-above : tie.After-above2 → tie.Start
-start-above c = c .before .before .before .before .before .before .before .before .before .before .before .before .before
+abbrev at-above : tie.After-rebalance → tie.After-above2
+at-above c = c .before .before
 
-abbrev start-turn : tie.After-rebalance → tie.Start
-start-turn c = c .before .before .before .before .before .before .before .before .before .before .before .before .before .before .before
+-- ---- the balance, seen from the child
 
--- ---- the balance
+stores : (c : tie.After-fork-at) (g : Given (c .before .before .before)) → let s = c .before .before .before in
+    Stores (s .args .left) (g .was) (other s g) (c .fork-at .result .balance) × (c .fork-at .result .balance ≤ 4)
+stores c g = stale-stores (c .before .before .before .args .left) (c .fork-at .result) (g .stale) (c .fork-at .ensures)
 
-said : (c : tie.After-fork-at) (g : Given (start-read c)) → Reading (c .fork-at .result) (start-read c .args .left) (g .was) (g .l) (g .r)
-said c g = reading (start-read c .args .left) (c .fork-at .result) (g .stale) (c .fork-at .ensures)
+abbrev after : tie.After-seen → ℤ
+after c = held (c .seen .result) +ℤ held (start c .args .change)
 
--- the child less the other one, before
-before-told : (c : tie.After-seen-from) (g : Given (start-seen c)) → Apart (held (c .seen-from .result)) (g .was) (other (start-seen c) g)
-before-told c g =
-    let s = start-seen c in
-    let z = c .before .signed .result in
-    let b = balance-told (s .args .left) z (g .stale) (said (c .before .before) g) (c .before .signed .ensures) in
-    kept (c .seen-from .result) (record { sfits = c .seen-from .ok })
-    (c .seen-from .ensures (g .was) (other s g) (kept z (record { sfits = c .before .signed .ok }) (b .0)))
+module _ (c : tie.After-seen) (g : Given (start c)) where
+  before-held : Apart (held (c .seen .result)) (g .was) (other (start c) g)
+  before-held = kept _ (record { sfits = c .seen .ok }) (c .seen .ensures (g .was) (other (start c) g) (stores (c .before) g .0))
 
--- and after
-abbrev after : tie.After-seen-from → ℤ
-after c = held (c .seen-from .result) +ℤ held (start-seen c .args .change)
+  after-is : Apart (after c) (own (start c) g) (other (start c) g)
+  after-is =
+      let s = start c in
+      same _ (own s g) (other s g)
+      (sum (held (c .seen .result)) (held (s .args .change)) before-held (kept (s .args .change) (s .fits .change) (g .change))) (omega arith)
 
-after-told : (c : tie.After-seen-from) (g : Given (start-seen c)) → Apart (after c) (own (start-seen c) g) (other (start-seen c) g)
-after-told c g =
-    let s = start-seen c in
-    same _ (own s g) (other s g)
-    (sum (held (c .seen-from .result)) (held (s .args .change)) (before-told c g) (kept (s .args .change) (s .fits .change) (g .change)))
-    (omega arith)
-
-after-held : (c : tie.After-seen-from) (g : Given (start-seen c)) → Apart (held (after c)) (own (start-seen c) g) (other (start-seen c) g)
-after-held c g = let h = g .stale in read _ (after-told c g) (omega arith) (omega arith)
-
--- the right child less the left one
-now-told : (c : tie.After-seen-from2) (g : Given (c .before .before .before .before .before .before .before)) → Apart (held (c .seen-from2 .result)) (height (g .r)) (height (g .l))
-now-told c g =
-    let s = c .before .before .before .before .before .before .before in
-    let left = s .args .left in
-    let x = own s g in
-    let o = other s g in
-    let back = c .seen-from2 .ensures (side left o x) (side left x o) (seen-back left _ x o (after-held (c .before .before) g)) in
-    kept (c .seen-from2 .result) (record { sfits = c .seen-from2 .ok }) (by-side left (c .seen-from2 .result) (g .l) (g .r) back)
+  after-held : Apart (held (after c)) (own (start c) g) (other (start c) g)
+  after-held = let h = g .stale in read _ after-is (omega arith) (omega arith)
 
 -- ---- the fork with its balance
 
-module _ (c : tie.After-set-fork) (g : Given (start-set c)) where
-  set-is : c .before .with-balance .result ≡ fork-of (g .l) (g .r)
+module _ (c : tie.After-set-fork) (g : Given (start (at-seen c))) where
+  abbrev set : Fork
+  set = c .before .with-balance .result
+
+  set-is : set ≡ fork-of (g .l) (g .r)
   set-is =
-      set-right (g .l) (g .r) (said (c .before .before .before .before .before .before) g) (c .before .with-balance .ensures) (now-told (c .before .before) g)
-      (left-most (start-set c .args .left) (g .stale))
+      let s = start (at-seen c) in
+      let stored = c .before .before .stored-from .ensures (own s g) (other s g) (after-held (at-seen c) g) in
+      set-right (s .args .left) (g .l) (g .r) (g .stale) (at-seen c .before .fork-at .ensures) (c .before .with-balance .ensures) stored
 
-  put-is : Put (now (start-set c .args .nodes)) (c .set-fork .last .0) (start-set c .args .n) (Node.Fork (c .before .with-balance .result))
-  put-is = put-right (g .l) (g .r) (g .stale) (c .before .with-balance .result) (c .set-fork .ensures)
+  put-is : Put (now (start (at-seen c) .args .nodes)) (c .set-fork .last .0) (start (at-seen c) .args .n) (Node.Fork set)
+  put-is = put-right (g .l) (g .r) (g .stale) set (c .set-fork .ensures)
 
-  stands : Uneven (c .set-fork .last .0) (start-set c .args .n) (g .l) (g .r)
+  stands : Uneven (c .set-fork .last .0) (start (at-seen c) .args .n) (g .l) (g .r)
   stands = uneven (g .l) (g .r) (g .stale) put-is set-is
 
 -- ---- the growth
@@ -117,114 +103,108 @@ module _ (c : tie.After-set-fork) (g : Given (start-set c)) where
 abbrev grown : tie.After-above2 → ℤ
 grown c = held (c .before .above .result) -ℤ held (c .above2 .result)
 
-module _ (c : tie.After-above2) (g : Given (start-above c)) where
-  grown-told : Apart (grown c) (high-after (start-above c) g) (high-before (start-above c) g)
-  grown-told =
-      let s = start-above c in
-      let seen = c .before .before .before .before .before .before .before .before in
-      let first = c .before in
-      let o = other s g in
-      let new = kept (first .above .result) (record { sfits = first .above .ok }) (first .above .ensures (own s g) o o (after-held seen g) (none o)) in
-      let old = kept (c .above2 .result) (record { sfits = c .above2 .ok }) (c .above2 .ensures (g .was) o o (before-told seen g) (none o)) in
-      same _ (high-after s g) (high-before s g) (minus (held (first .above .result)) (held (c .above2 .result)) new old) (omega arith)
+abbrev entry : tie.After-above2 → tie.Start
+entry c = start (at-seen (at-set c))
 
-  grown-held : Apart (held (grown c)) (high-after (start-above c) g) (high-before (start-above c) g)
-  grown-held = let h = g .stale in read _ grown-told (omega arith) (omega arith)
+module _ (c : tie.After-above2) (g : Given (entry c)) where
+  grown-is : Apart (grown c) (high-after (entry c) g) (high-before (entry c) g)
+  grown-is =
+      let seen = at-seen (at-set c) in
+      let above = c .before .above in
+      let o = other (entry c) g in
+      let new = kept (above .result) (record { sfits = above .ok }) (above .ensures (own (entry c) g) o o (after-held seen g) (none o)) in
+      let old = kept (c .above2 .result) (record { sfits = c .above2 .ok }) (c .above2 .ensures (g .was) o o (before-held seen g) (none o)) in
+      same _ (high-after (entry c) g) (high-before (entry c) g) (minus (held (above .result)) (held (c .above2 .result)) new old) (omega arith)
+
+  grown-held : Apart (held (grown c)) (high-after (entry c) g) (high-before (entry c) g)
+  grown-held = let h = g .stale in read _ grown-is (omega arith) (omega arith)
 
 abbrev whole : tie.After-rebalance → ℤ
-whole c = held (grown (c .before .before)) +ℤ held (c .rebalance .result)
+whole c = held (grown (at-above c)) +ℤ held (c .rebalance .result)
 
--- the growth is told and small
-record Told (z : ℤ) (x y : ℕ) : Type 0 where
-  told : Apart z x y
+-- the growth is small
+record Small (z : ℤ) (x y : ℕ) : Type 0 where
+  is : Apart z x y
   most : x ≤ y + 999
   least : y ≤ x + 999
 
-module _ (c : tie.After-rebalance) (g : Given (start-turn c)) where
-  even : Evened (c .before .before .before .before .before .before .set-fork .last .0) (c .rebalance .last .0) (c .rebalance .result) (start-turn c .args .n) (g .l) (g .r)
-  even = c .rebalance .ensures (g .l) (g .r) (stands (c .before .before .before .before .before .before) g)
+abbrev first : tie.After-rebalance → tie.Start
+first c = entry (at-above c)
 
-  whole-told : Told (whole c) (height (Turn.rebalance (start-turn c .args .n) (g .l) (g .r))) (high-before (start-turn c) g)
-  whole-told =
-      let s = start-turn c in
+module _ (c : tie.After-rebalance) (g : Given (first c)) where
+  even : Evened (at-set (at-above c) .set-fork .last .0) (c .rebalance .last .0) (c .rebalance .result) (first c .args .n) (g .l) (g .r)
+  even = c .rebalance .ensures (g .l) (g .r) (stands (at-set (at-above c)) g)
+
+  whole-is : Small (whole c) (height (Turn.rebalance (first c .args .n) (g .l) (g .r))) (high-before (first c) g)
+  whole-is =
+      let s = first c in
       let n = s .args .n in
-      let above = c .before .before in
-      let high = height (Turn.rebalance n (g .l) (g .r)) in
       let turned = kept (c .rebalance .result) (record { sfits = c .rebalance .ok }) (even .change) in
       let h = g .stale in
       let e = higher-side (s .args .left) (g .l) (g .r) in
       let f = fork-height n (g .l) (g .r) in
       let v = evened-near even in
       record {
-        told = same _ high (high-before s g) (sum (held (grown above)) (held (c .rebalance .result)) (grown-held above g) turned) (omega arith);
+        is =
+            same _ _ (high-before s g) (sum (held (grown (at-above c))) (held (c .rebalance .result)) (grown-held (at-above c) g) turned)
+            (omega arith);
         most = omega arith;
         least = omega arith;
       }
 
 -- ---- the needs
 
-signed-requires : tie.Need-signed-requires
-signed-requires c κs = let b = said c (given (start-read c)) .small in omega arith
+fork-at-requires : tie.Need-fork-at-requires
+fork-at-requires c κs = (_, given (c .before .before) .stale .says)
 
-seen-from-requires : tie.Need-seen-from-requires
-seen-from-requires c κs =
-    let s = c .before .before .before .before in
-    let g = given s in
-    let z = c .signed .result in
-    let b = balance-told (s .args .left) z (g .stale) (said (c .before) g) (c .signed .ensures) in
-    within 9 _ (kept z (record { sfits = c .signed .ok }) (b .0)) (omega arith) (omega arith)
+seen-requires : tie.Need-seen-requires
+seen-requires c κs = stores c (given (c .before .before .before)) .1
 
 add-after : tie.Need-add-after
-add-after c = let g = given (start-seen c) in let h = g .stale in fits _ (after-told c g) (omega arith) (omega arith)
+add-after c = let g = given (start c) in let h = g .stale in fits _ (after-is c g) (omega arith) (omega arith)
 
-seen-from-requires-2 : tie.Need-seen-from-requires-2
-seen-from-requires-2 c κs = let g = given (start-seen (c .before)) in let h = g .stale in within 9 _ (after-held (c .before) g) (omega arith) (omega arith)
-
-with-balance-requires : tie.Need-with-balance-requires
-with-balance-requires c κs =
-    let s = c .before .before .before .before .before .before .before in
-    let g = given s in
-    within 2 _ (now-told c g) (right-most (s .args .left) (g .stale)) (left-most (s .args .left) (g .stale))
+stored-from-requires : tie.Need-stored-from-requires
+stored-from-requires c κs = let g = given (start (c .before)) in let h = g .stale in within 2 _ (after-held (c .before) g) (omega arith) (omega arith)
 
 above-requires : tie.Need-above-requires
 above-requires c κs =
-    let seen = c .before .before .before .before .before .before in
-    let g = given (start-seen seen) in
+    let seen = at-seen (c .before .before) in
+    let g = given (start seen) in
     let h = g .stale in
     (within 99 _ (after-held seen g) (omega arith) (omega arith), omega arith)
 
 above-requires-2 : tie.Need-above-requires-2
 above-requires-2 c κs =
-    let seen = c .before .before .before .before .before .before .before in
-    let g = given (start-seen seen) in
+    let seen = at-seen (c .before .before .before) in
+    let g = given (start seen) in
     let h = g .stale in
-    (within 99 _ (before-told seen g) (omega arith) (omega arith), omega arith)
+    (within 99 _ (before-held seen g) (omega arith) (omega arith), omega arith)
 
 sub-grown : tie.Need-sub-grown
-sub-grown c = let g = given (start-above c) in let h = g .stale in fits _ (grown-told c g) (omega arith) (omega arith)
+sub-grown c = let g = given (entry c) in let h = g .stale in fits _ (grown-is c g) (omega arith) (omega arith)
 
 rebalance-requires : tie.Need-rebalance-requires
 rebalance-requires c κs =
-    let set = c .before .before .before .before .before in
-    let g = given (start-set set) in
+    let set = at-set (c .before) in
+    let g = given (start (at-seen set)) in
     (g .l, (g .r, stands set g))
 
 add-result : tie.Need-add-result
 add-result c =
     let turn = c .before .before in
-    let t = whole-told turn (given (start-turn turn)) in
-    fits _ (t .told) (t .most) (t .least)
+    let t = whole-is turn (given (first turn)) in
+    fits _ (t .is) (t .most) (t .least)
 
 returns : tie.Need-returns
 returns c = λ l r was stale change.
     let turn = c .before .before in
-    let g : Given (start-turn turn) = record { l = l; r = r; was = was; stale = stale; change = change } in
-    let t = whole-told turn g in
-    leveled l r stale (put-is (turn .before .before .before .before .before .before) g) (even turn g) (read _ (t .told) (t .most) (t .least))
+    let g : Given (first turn) = record { l = l; r = r; was = was; stale = stale; change = change } in
+    let t = whole-is turn g in
+    leveled l r stale (put-is (at-set (at-above turn)) g) (even turn g) (read _ (t .is) (t .most) (t .least))
 
 pub child-changed-spec : {M : Type 1} → statement M
 child-changed-spec =
     tie.close
     (tie.spec
-    (λ c κs. search needs) signed-requires seen-from-requires add-after seen-from-requires-2 with-balance-requires (λ c κs. search needs) above-requires
-    above-requires-2 sub-grown rebalance-requires add-result (λ c. search needs) returns)
+    fork-at-requires seen-requires add-after stored-from-requires (λ c κs. search needs) (λ c κs. search needs) above-requires above-requires-2
+    sub-grown rebalance-requires add-result (λ c. search needs) returns)

@@ -1,108 +1,121 @@
 -- The stored balance tells which child is two levels higher, if one is. Assumes nothing.
-use Prim.Native.Nat.{_+_, _-_, _≤_}
+use Prim.Native.Nat.{ℕ, _+_, _≤_}
 use native.Mathlib.Omega.{arith}
 use borrow.Author.Needs.{needs}
-use mathlib.Core.Path.{_≡_, ap, _∙_}
+use mathlib.Core.Bool.{true, false}
+use mathlib.Core.Path.{_≡_, sym, ap, subst, _∙_}
 use denote.Ref.{now}
 use lib.IntN.{pos, negsuc}
-use Rattle.model.specs.Tree.{Tree, height}
+use Rattle.model.specs.Tree.{Tree, height, numbers}
+use Rattle.pool.specs.Layout.{Edited, fork-of}
 use Rattle.pool.specs.Node.{fork-in}
-use Rattle.turn.specs.Words.{Child, Uneven}
-use Rattle.turn.proofs.Differences.{equals, differs}
-use Rattle.turn.proofs.Evening.{left-child, right-child, turns-right, turns-left, moved-right-over, moved-left-over, stayed, evened, evened-read}
-use Rattle.turn.proofs.Read.{Fields, fields}
+use Rattle.turn.specs.Apart.{Apart}
+use Rattle.turn.specs.Sites.{Stores}
+use Rattle.turn.specs.Words.{Child, Uneven, leaning}
+use Rattle.turn.proofs.Differences.{refuted, tested}
+use Rattle.turn.proofs.Evening.{near-child, turns-over, moved-over, stayed, evened, evened-read}
+use Rattle.turn.proofs.Joined.{over-stores}
+use Rattle.turn.proofs.Read.{fields}
 use Rattle.turn.proofs.turning.rebalance.Statement.{statement}
 use Rattle.turn.proofs.turning.rebalance.Tie as tie
 
 abbrev Given : tie.Start → Tree → Tree → Type 0
 Given s l r = Uneven (now (s .args .nodes)) (s .args .n) l r
 
-read : (c : tie.After-fork-at) (l r : Tree) → Given (c .before .before .before) l r → Fields (c .fork-at .result) l r
-read c l r u = fields (c .fork-at .result) l r (c .fork-at .ensures ∙ ap fork-in (u .stands .holds .0))
+abbrev start : tie.After-fork-at → tie.Start
+start c = c .before .before .before
 
-small : (c : tie.After-fork-at) (l r : Tree) → Given (c .before .before .before) l r → c .fork-at .result .balance ≤ 4
-small c l r u = let e = read c l r u .balance-is in let h = u .right-most in omega arith
+-- what is read
 
-left-high : (c : tie.Then1) (l r : Tree) → Given (c .before .before .before .before .before) l r → height l ≡ height r + 2
+read : (c : tie.After-fork-at) (l r : Tree) → Given (start c) l r → c .fork-at .result ≡ fork-of l r
+read c l r u = c .fork-at .ensures ∙ ap fork-in (u .stands .holds .0)
+
+stores : (c : tie.After-fork-at) (l r : Tree) → Given (start c) l r
+    → Stores true (height l) (height r) (c .fork-at .result .balance) × (c .fork-at .result .balance ≤ 4)
+stores c l r u = over-stores (c .fork-at .result) true l r (read c l r u) (u .left-most) (u .right-most)
+
+seen : (c : tie.After-seen) (l r : Tree) → Given (start (c .before)) l r → Apart (c .seen .result) (height l) (height r)
+seen c l r u = c .seen .ensures (height l) (height r) (stores (c .before) l r u .0)
+
+left-high : (c : tie.Then1) (l r : Tree) → Given (start (c .before .before)) l r → height l ≡ height r + 2
 left-high c l r u =
-    let e = read (c .before .before) l r u .balance-is in
-    let h = u .left-most in
-    let k = equals (c .before .signed .result) (negsuc 1) 0 (c .before .signed .ensures) (record { told = omega arith }) (small (c .before .before) l r u) (omega arith) (c .if1 .taken) in
-    omega arith
+    let s = c .before .seen in
+    tested (s .result) (pos 2) (record { sfits = s .ok }) (record { sfits = omega arith }) (c .if1 .taken) (seen (c .before) l r u) .is
 
-not-left : (c : tie.Else1) (l r : Tree) → Given (c .before .before .before .before .before) l r → height l ≡ height r + 2 → ⊥
-not-left c l r u h =
-    let e = read (c .before .before) l r u .balance-is in
-    differs (c .before .signed .result) (negsuc 1) 0 (c .before .signed .ensures) (record { told = omega arith }) (small (c .before .before) l r u) (omega arith) (c .if1 .left) (omega arith)
+not-left : (c : tie.Else1) (l r : Tree) → Given (start (c .before .before)) l r → height l ≡ height r + 2 → ⊥
+not-left c l r u h = refuted (c .before .seen .result) (pos 2) (c .if1 .left) (seen (c .before) l r u) (record { is = h })
 
-right-high : (c : tie.Then2) (l r : Tree) → Given (c .before .before .before .before .before .before) l r → height r ≡ height l + 2
+right-high : (c : tie.Then2) (l r : Tree) → Given (start (c .before .before .before)) l r → height r ≡ height l + 2
 right-high c l r u =
-    let s = c .before .before in
-    let e = read (s .before) l r u .balance-is in
-    let k = equals (s .signed .result) (pos 2) 4 (s .signed .ensures) (record { told = omega arith }) (small (s .before) l r u) (omega arith) (c .if2 .taken) in
-    omega arith
+    let s = c .before .before .seen in
+    tested (s .result) (negsuc 1) (record { sfits = s .ok }) (record { sfits = omega arith }) (c .if2 .taken) (seen (c .before .before) l r u) .is
 
-not-right : (c : tie.Else2) (l r : Tree) → Given (c .before .before .before .before .before .before) l r → height r ≡ height l + 2 → ⊥
-not-right c l r u h =
-    let s = c .before .before in
-    let e = read (s .before) l r u .balance-is in
-    differs (s .signed .result) (pos 2) 4 (s .signed .ensures) (record { told = omega arith }) (small (s .before) l r u) (omega arith) (c .if2 .left) (omega arith)
+not-right : (c : tie.Else2) (l r : Tree) → Given (start (c .before .before .before)) l r → height r ≡ height l + 2 → ⊥
+not-right c l r u h = refuted (c .before .before .seen .result) (negsuc 1) (c .if2 .left) (seen (c .before .before) l r u) (record { is = h })
 
-signed-requires : tie.Need-signed-requires
-signed-requires c κs = let p = c .before .before .before .pre in small c (p .0) (p .1 .0) (p .1 .1)
+fork-at-requires : tie.Need-fork-at-requires
+fork-at-requires c κs = (_, c .before .before .pre .1 .1 .stands .holds .0)
 
--- the children are where the fork says
-left-at : (c : tie.After-fork-at) (l r : Tree) → Given (c .before .before .before) l r → Child (now (c .before .before .before .args .nodes)) (c .fork-at .result .left) l
-left-at c l r u = rw (read c l r u .left-is) (left-child l r u)
+seen-requires : tie.Need-seen-requires
+seen-requires c κs = let p = start c .pre in stores c (p .0) (p .1 .0) (p .1 .1) .1
 
-right-at : (c : tie.After-fork-at) (l r : Tree) → Given (c .before .before .before) l r → Child (now (c .before .before .before .args .nodes)) (c .fork-at .result .right) r
-right-at c l r u = rw (read c l r u .right-is) (right-child l r u)
+-- ---- the left child is the higher one
 
-lean-left-requires : tie.Need-lean-left-requires
-lean-left-requires c κs =
+left-at : (c : tie.After-fork-at) (l r : Tree) → Given (start c) l r → Child (now (start c .args .nodes)) (c .fork-at .result .left) l
+left-at c l r u = subst (λ (i : ℕ). Child (now (start c .args .nodes)) i l) (sym (fields _ l r (read c l r u) .left-is)) (near-child true l r u)
+
+leaned-left : (c : tie.After-lean) → let s = start (c .before .before .before .before) in (l r : Tree) → Given s l r
+    → (height l ≡ height r + 2) × Edited (now (s .args .nodes)) (c .lean .last .0) (numbers l) (leaning true l)
+leaned-left c l r u = (left-high (c .before .before) l r u, c .lean .ensures l (left-at (c .before .before .before .before) l r u))
+
+lean-requires : tie.Need-lean-requires
+lean-requires c κs =
     let f = c .before .before .before in
-    let p = f .before .before .before .pre in
+    let p = start f .pre in
     (p .0, left-at f (p .0) (p .1 .0) (p .1 .1))
 
-turn-right-requires : tie.Need-turn-right-requires
-turn-right-requires c κs =
+turn-requires : tie.Need-turn-requires
+turn-requires c κs =
     let lean = c .before .before .before in
-    let test = lean .before .before in
-    let f = test .before .before in
-    let p = f .before .before .before .pre in
-    turns-right (p .0) (p .1 .0) (p .1 .1) (left-high test (p .0) (p .1 .0) (p .1 .1)) (lean .lean-left .ensures (p .0) (left-at f (p .0) (p .1 .0) (p .1 .1)))
+    let p = start (lean .before .before .before .before) .pre in
+    let k = leaned-left lean (p .0) (p .1 .0) (p .1 .1) in
+    turns-over true (p .0) (p .1 .0) (p .1 .1) (k .0) (k .1)
 
 returns : tie.Need-returns
 returns c = λ l r u.
     let turn = c .before .before in
-    let lean = turn .before .before .before .before in
-    let test = lean .before .before in
-    let f = test .before .before in
-    evened-read l r u (turn .turn-right .result) (record { sfits = turn .turn-right .ok })
-    (moved-right-over l r u (left-high test l r u) (lean .lean-left .ensures l (left-at f l r u)) (turn .turn-right .ensures))
+    let k = leaned-left (turn .before .before .before .before) l r u in
+    evened-read l r u (turn .turn .result) (record { sfits = turn .turn .ok }) (moved-over true l r u (k .0) (k .1) (turn .turn .ensures))
 
-lean-right-requires : tie.Need-lean-right-requires
-lean-right-requires c κs =
+-- ---- the right child is the higher one
+
+right-at : (c : tie.After-fork-at) (l r : Tree) → Given (start c) l r → Child (now (start c .args .nodes)) (c .fork-at .result .right) r
+right-at c l r u = subst (λ (i : ℕ). Child (now (start c .args .nodes)) i r) (sym (fields _ l r (read c l r u) .right-is)) (near-child false r l u)
+
+leaned-right : (c : tie.After-lean2) → let s = start (c .before .before .before .before .before) in (l r : Tree) → Given s l r
+    → (height r ≡ height l + 2) × Edited (now (s .args .nodes)) (c .lean2 .last .0) (numbers r) (leaning false r)
+leaned-right c l r u = (right-high (c .before .before) l r u, c .lean2 .ensures r (right-at (c .before .before .before .before .before) l r u))
+
+lean-requires-2 : tie.Need-lean-requires-2
+lean-requires-2 c κs =
     let f = c .before .before .before .before in
-    let p = f .before .before .before .pre in
+    let p = start f .pre in
     (p .1 .0, right-at f (p .0) (p .1 .0) (p .1 .1))
 
-turn-left-requires : tie.Need-turn-left-requires
-turn-left-requires c κs =
+turn-requires-2 : tie.Need-turn-requires-2
+turn-requires-2 c κs =
     let lean = c .before .before .before in
-    let test = lean .before .before in
-    let f = test .before .before .before in
-    let p = f .before .before .before .pre in
-    turns-left (p .0) (p .1 .0) (p .1 .1) (right-high test (p .0) (p .1 .0) (p .1 .1)) (lean .lean-right .ensures (p .1 .0) (right-at f (p .0) (p .1 .0) (p .1 .1)))
+    let p = start (lean .before .before .before .before .before) .pre in
+    let k = leaned-right lean (p .0) (p .1 .0) (p .1 .1) in
+    turns-over false (p .1 .0) (p .0) (p .1 .1) (k .0) (k .1)
 
 returns-2 : tie.Need-returns-2
 returns-2 c = λ l r u.
     let turn = c .before .before in
-    let lean = turn .before .before .before .before in
-    let test = lean .before .before in
-    let f = test .before .before .before in
-    evened-read l r u (turn .turn-left .result) (record { sfits = turn .turn-left .ok })
-    (moved-left-over l r u (right-high test l r u) (lean .lean-right .ensures r (right-at f l r u)) (turn .turn-left .ensures))
+    let k = leaned-right (turn .before .before .before .before) l r u in
+    evened-read l r u (turn .turn2 .result) (record { sfits = turn .turn2 .ok }) (moved-over false r l u (k .0) (k .1) (turn .turn2 .ensures))
+
+-- ---- neither is
 
 returns-3 : tie.Need-returns-3
 returns-3 c = λ l r u. evened l r u (stayed l r u (not-left (c .before) l r u) (not-right c l r u))
@@ -111,5 +124,5 @@ pub rebalance-spec : {M : Type 1} → statement M
 rebalance-spec =
     tie.close
     (tie.spec
-    (λ c κs. search needs) signed-requires lean-left-requires turn-right-requires (λ c. search needs) returns lean-right-requires turn-left-requires
+    fork-at-requires seen-requires lean-requires turn-requires (λ c. search needs) returns lean-requires-2 turn-requires-2
     (λ c. search needs) returns-2 (λ c. search needs) returns-3)

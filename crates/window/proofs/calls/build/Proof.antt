@@ -12,15 +12,19 @@ use Rattle.window.specs.Calls.{BuildsTo}
 use Rattle.window.specs.Layout.{Counted, Stands}
 use Rattle.window.proofs.OneState.{nodes-are, nodes-length}
 use Rattle.window.proofs.Builds.{no-built, long-built, full-built, done-built, Fits, fits-room, after-length, after-trailer, after-stands}
+use Rattle.window.proofs.Verdicts.{says-not}
 use Rattle.window.proofs.calls.build.Statement.{statement}
 use Rattle.window.proofs.calls.build.Tie as tie
 
 -- what the three tests have shown
-fits : (c : tie.Else3) → Fits (c .before .before .before .before .before .before .before .before .before .args .pool .now) (c .before .before .before .before .before .before .before .before .before .args .words .now) (c .before .before .before .before .before .before .before .before .before .args .length) (c .before .before .before .before .before .nodes-of .result)
+fits : (c : tie.Else3) → Fits (c .before .before .before .before .before .before .before .before .before .args .pool .now)
+    (c .before .before .before .before .before .before .before .before .before .args .words .now)
+    (c .before .before .before .before .before .before .before .before .before .args .length)
+    (c .before .before .before .before .before .nodes-of .result)
 fits c =
     let n = c .before .before .before .before .before .nodes-of in
     let k = n .ensures .yes (omega (arith, c .before .before .before .before .if1 .left)) in
-    let t = c .before .before .before .too-few .ensures .no (c .before .before .if2 .left) in
+    let t = says-not (c .before .before .before .too-few .ensures) (c .before .before .if2 .left) in
     record {
       counted = k;
       given = omega (arith, t);
@@ -32,7 +36,8 @@ returns c = no-built _ _ _ (c .before .nodes-of .ensures .no (c .if1 .taken))
 
 returns-2 : tie.Need-returns-2
 returns-2 c =
-    long-built _ _ _ _ (c .before .before .before .nodes-of .ensures .yes (omega (arith, c .before .before .if1 .left))) (c .before .too-few .ensures .yes (c .if2 .taken))
+    long-built _ _ _ _ (c .before .before .before .nodes-of .ensures .yes (omega (arith, c .before .before .if1 .left)))
+    (c .before .too-few .ensures .yes (c .if2 .taken))
 
 add-if3 : tie.Need-add-if3
 add-if3 c = let k = c .before .before .before .nodes-of .ensures .yes (omega (arith, c .before .before .if1 .left)) in omega (arith, k .most)
@@ -40,7 +45,8 @@ add-if3 c = let k = c .before .before .before .nodes-of .ensures .yes (omega (ar
 returns-3 : tie.Need-returns-3
 returns-3 c =
     let k = c .before .before .before .before .before .nodes-of .ensures .yes (omega (arith, c .before .before .before .before .if1 .left)) in
-    full-built _ _ _ _ k (let t = c .before .before .before .too-few .ensures .no (c .before .before .if2 .left) in omega (arith, t)) (omega (arith, c .if3 .taken, c .before .leaf-count .ensures))
+    full-built _ _ _ _ k (let t = says-not (c .before .before .before .too-few .ensures) (c .before .before .if2 .left) in omega (arith, t))
+    (omega (arith, c .if3 .taken, c .before .leaf-count .ensures))
 
 mul-end : tie.Need-mul-end
 mul-end c = let f = fits c in omega (arith, f .counted .most)
@@ -58,39 +64,24 @@ mul-set-trailer : tie.Need-mul-set-trailer
 mul-set-trailer c = let f = fits (c .before .before .before .before .before) in omega (arith, f .counted .most)
 
 sub-set-trailer : tie.Need-sub-set-trailer
-sub-set-trailer c = let f = fits (c .before .before .before .before .before) in omega (arith, after-length f _ _ (c .before .before .before .build .ensures))
+sub-set-trailer c = let f = fits (c .before .before .before .before .before) in
+    omega (arith, after-length f _ _ (c .before .before .before .build .ensures))
 
 part-set-trailer-start : tie.Need-part-set-trailer-start
 part-set-trailer-start c = sub-set-trailer c
 
 set-trailer-requires : tie.Need-set-trailer-requires
-set-trailer-requires c κs = let f = fits (c .before .before .before .before .before .before) in after-trailer f _ _ (c .before .before .before .before .build .ensures)
+set-trailer-requires c κs = let f = fits (c .before .before .before .before .before .before) in
+    after-trailer f _ _ (c .before .before .before .before .build .ensures)
 
 returns-4 : tie.Need-returns-4
-returns-4 c = let f = fits (c .before .before .before .before .before .before .before .before .before) in after-stands f _ _ (c .before .before .before .before .before .before .before .build .ensures) _ (c .before .before .set-trailer .ensures)
+returns-4 c = let f = fits (c .before .before .before .before .before .before .before .before .before) in
+    after-stands f _ _ (c .before .before .before .before .before .before .before .build .ensures) _ (c .before .before .set-trailer .ensures)
 
 pub build-spec : {M : Type 1} → statement M
 build-spec =
     tie.close
     (tie.spec
-    (λ c κs. search needs)
-    (λ c. search needs)
-    returns
-    (λ c κs. search needs)
-    (λ c. search needs)
-    returns-2
-    add-if3
-    (λ c κs. search needs)
-    (λ c. search needs)
-    returns-3
-    mul-end
-    slice-relend-prefix-build
-    slice-aggregate-build
-    build-requires
-    mul-set-trailer
-    sub-set-trailer
-    part-set-trailer-start
-    (λ c. search needs)
-    set-trailer-requires
-    (λ c. search needs)
-    returns-4)
+    (λ c κs. search needs) (λ c. search needs) returns (λ c κs. search needs) (λ c. search needs) returns-2 add-if3 (λ c κs. search needs)
+    (λ c. search needs) returns-3 mul-end slice-relend-prefix-build slice-aggregate-build build-requires mul-set-trailer sub-set-trailer
+    part-set-trailer-start (λ c. search needs) set-trailer-requires (λ c. search needs) returns-4)

@@ -24,7 +24,8 @@ returns-2 c =
 returns-3 : tie.Need-returns-3
 returns-3 c =
     let n = c .before .before .before .before .nodes-of in
-    damaged-checked _ (n .result) (n .ensures .yes (omega (arith, c .before .before .before .if1 .left))) (rw (c .enum-told .given .1) at (c .before .before .judged .ensures))
+    damaged-checked _ (n .result) (n .ensures .yes (omega (arith, c .before .before .before .if1 .left)))
+    (rw (c .enum-told .given .1) at (c .before .before .judged .ensures))
 
 pub check-spec : {M : Type 1} → statement M
 check-spec = tie.close (tie.spec (λ c κs. search needs) returns judged-requires (λ c. search needs) (λ c. search needs) returns-2 returns-3)

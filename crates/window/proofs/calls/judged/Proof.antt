@@ -8,15 +8,17 @@ use lib.ListN.{length, take, drop, length-drop}
 use lib.Seq.{take-all}
 use Rattle.sound.specs.Judged.{Judged}
 use Rattle.window.specs.Layout.{WellFormed, trailer-in}
-use Rattle.window.proofs.OneState.{nodes-length, nodes-are, well-at, right-stands, stands-right, stands-nodes, stands-last}
+use Rattle.window.proofs.OneState.{nodes-length, nodes-are, well-at, correct-stands, stands-correct, stands-nodes, stands-last}
 use Rattle.window.proofs.calls.judged.Statement.{statement}
 use Rattle.window.proofs.calls.judged.Tie as tie
 
 -- what was read is the trailer
-told : (c : tie.After-trailer-of) → let s = c .before .before .before in c .trailer-of .result ≡ trailer-in (drop (s .args .n * 6) (s .args .pool .now))
+told : (c : tie.After-trailer-of) → let s = c .before .before .before in
+    c .trailer-of .result ≡ trailer-in (drop (s .args .n * 6) (s .args .pool .now))
 told c =
     let s = c .before .before .before in
-    c .trailer-of .ensures ∙ ap trailer-in (take-all (length (s .args .pool .now) - s .args .n * 6) (drop (s .args .n * 6) (s .args .pool .now)) (omega (arith, length-drop (s .args .n * 6) (s .args .pool .now))))
+    c .trailer-of .ensures ∙ ap trailer-in (take-all (length (s .args .pool .now) - s .args .n * 6) (drop (s .args .n * 6) (s .args .pool .now))
+    (omega (arith, length-drop (s .args .n * 6) (s .args .pool .now))))
 
 returns : tie.Need-returns
 returns c = λ x.
@@ -31,7 +33,8 @@ returns-2 c = λ x.
     c .if2 .taken (rw (told (c .before .before .before .before)) (stands-last (s .args .pool .now) (s .args .n) (s .pre) (q .0) (q .1)))
 
 slice-aggregate-sound : tie.Need-slice-aggregate-sound
-slice-aggregate-sound c = let s = c .before .before .before .before .before .before .before .before .before in sym (nodes-length (s .args .pool .now) (s .args .n) (s .pre))
+slice-aggregate-sound c = let s = c .before .before .before .before .before .before .before .before .before in
+    sym (nodes-length (s .args .pool .now) (s .args .n) (s .pre))
 
 sound-requires : tie.Need-sound-requires
 sound-requires c κs =
@@ -42,14 +45,19 @@ returns-3 : tie.Need-returns-3
 returns-3 c =
     let s = c .before .before .before .before .before .before .before .before .before .before .before in
     let t = told (c .before .before .before .before .before .before .before .before) in
-    let p = (rw t at (c .before .sound .ensures)) .yes (c .if3 .taken) in
-    (p .0, right-stands (s .args .pool .now) (s .args .n) (s .pre) (p .0) (rw t at (c .before .before .before .before .before .before .if1 .left)) (rw t at (c .before .before .before .before .if2 .left)) (p .1), t)
+    let p = (rw t at (c .before .sound .ensures)) .yes (c .if3 .taken) in (
+      p .0,
+      correct-stands (s .args .pool .now) (s .args .n) (s .pre) (p .0) (rw t at (c .before .before .before .before .before .before .if1 .left))
+          (rw t at (c .before .before .before .before .if2 .left)) (p .1),
+      t,
+    )
 
 returns-4 : tie.Need-returns-4
 returns-4 c = λ x.
     let s = c .before .before .before .before .before .before .before .before .before .before .before in
     let q = well-at (s .args .pool .now) (s .args .n) (s .pre) x in
-    let yes = (rw (told (c .before .before .before .before .before .before .before .before)) at (c .before .sound .ensures)) .no (q .0) (stands-right (s .args .pool .now) (s .args .n) (s .pre) (q .0) (q .1)) in
+    let yes = (rw (told (c .before .before .before .before .before .before .before .before)) at (c .before .sound .ensures)) .no (q .0)
+    (stands-correct (s .args .pool .now) (s .args .n) (s .pre) (q .0) (q .1)) in
     let no = c .if3 .left in
     let never : _≡_ {A = ℕ} 0 1 = cc in
     omega arith
@@ -58,15 +66,5 @@ pub judged-spec : {M : Type 1} → statement M
 judged-spec =
     tie.close
     (tie.spec
-    (λ c. search needs)
-    (λ c. search needs)
-    (λ c. search needs)
-    (λ c. search needs)
-    (λ c. search needs)
-    (λ c κs. search needs)
-    returns
-    returns-2
-    slice-aggregate-sound
-    sound-requires
-    returns-3
-    returns-4)
+    (λ c. search needs) (λ c. search needs) (λ c. search needs) (λ c. search needs) (λ c. search needs) (λ c κs. search needs) returns returns-2
+    slice-aggregate-sound sound-requires returns-3 returns-4)

@@ -26,7 +26,8 @@ pub record Told (ws : List ℕ) (n : ℕ) (t : Trailer) : Type 0 where
   pub rooted : Rooted (take (n * 6) ws) (t .root) 12 (pool .tree)
   pub few : size (pool .tree) ≤ 127 * 2 ^ 12
 
-told : (c : tie.After-known-told) → Told (c .before .before .before .before .before .before .before .before .args .pool .now) (c .before .before .before .before .before .nodes-of .result) (c .before .trailer .given .0 .0)
+told : (c : tie.After-known-told) → Told (c .before .before .before .before .before .before .before .before .args .pool .now)
+    (c .before .before .before .before .before .nodes-of .result) (c .before .trailer .given .0 .0)
 told c =
     let ws = c .before .before .before .before .before .before .before .before .args .pool .now in
     let n = c .before .before .before .before .before .nodes-of .result in
@@ -76,22 +77,12 @@ returns-3 c =
 returns-4 : tie.Need-returns-4
 returns-4 c =
     let n = c .before .before .before .before .nodes-of in
-    damaged-valued _ (n .result) (n .ensures .yes (omega (arith, c .before .before .before .if1 .left))) (rw (c .enum-told .given .1) at (c .before .before .judged .ensures)) _
+    damaged-valued _ (n .result) (n .ensures .yes (omega (arith, c .before .before .before .if1 .left)))
+    (rw (c .enum-told .given .1) at (c .before .before .judged .ensures)) _
 
 pub values-spec : {M : Type 1} → statement M
 values-spec =
     tie.close
     (tie.spec
-    (λ c κs. search needs)
-    returns
-    judged-requires
-    (λ c. search needs)
-    words-for-requires
-    returns-2
-    mul-end
-    slice-aggregate-values
-    values-requires
-    (λ c. search needs)
-    (λ c. search needs)
-    returns-3
-    returns-4)
+    (λ c κs. search needs) returns judged-requires (λ c. search needs) words-for-requires returns-2 mul-end slice-aggregate-values values-requires
+    (λ c. search needs) (λ c. search needs) returns-3 returns-4)

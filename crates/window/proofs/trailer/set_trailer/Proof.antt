@@ -10,11 +10,7 @@ pub set-trailer-spec : {M : Type 1} → statement M
 set-trailer-spec =
     tie.close
     (tie.spec
-    (λ c. search needs)
-    (λ c. search needs)
-    (λ c. search needs)
-    (λ c. search needs)
-    (λ c. simp length-set (omega arith))
-    (λ c. simp length-set (omega arith))
-    (λ c. search needs)
-    (λ c. let t = c .before .args .trailer in set-six (c .before .args .words .now) (t .root) (t .length) (t .chain .first) (t .chain .count) (t .nodes) (t .last) (c .before .pre)))
+    (λ c. search needs) (λ c. search needs) (λ c. search needs) (λ c. search needs) (λ c. simp length-set (omega arith))
+    (λ c. simp length-set (omega arith)) (λ c. search needs)
+    (λ c. let t = c .before .args .trailer in set-six (c .before .args .words .now) (t .root) (t .length) (t .chain .first) (t .chain .count)
+    (t .nodes) (t .last) (c .before .pre)))

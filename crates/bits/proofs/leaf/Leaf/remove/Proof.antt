@@ -6,26 +6,24 @@ use Rattle.bits.proofs.TwoWords.{remove-low, remove-high, remove-none}
 use Rattle.bits.proofs.leaf.Leaf.remove.Statement.{statement}
 use Rattle.bits.proofs.leaf.Leaf.remove.Tie as tie
 
-word-remove-requires : tie.Need-word-remove-requires
-word-remove-requires c κs = search needs
-
-word-remove-requires-2 : tie.Need-word-remove-requires-2
-word-remove-requires-2 c κs = search needs
-
 returns : tie.Need-returns
 unfolding bits-of odd
-returns c = let s = c .before .before .before .before in remove-low (s .args .self .low) (s .args .self .high) (s .args .at) (c .before .before .before .if1 .taken) (c .before .word-remove .ensures) (c .word-remove2 .ensures)
-
-word-remove-requires-3 : tie.Need-word-remove-requires-3
-word-remove-requires-3 c κs = search needs
+returns c =
+    let s = c .before .before .before .before .args in
+    let taken = c .before .before .before .if1 .taken in
+    remove-low (s .self) (s .at) taken (c .before .word-remove .ensures) (c .word-remove2 .ensures)
 
 returns-2 : tie.Need-returns-2
 unfolding bits-of
-returns-2 c = let s = c .before .before .before in remove-high (s .args .self .low) (s .args .self .high) (s .args .at) (search needs) (c .before .before .if1 .left) (c .word-remove3 .ensures)
+returns-2 c =
+    let s = c .before .before .before .args in
+    remove-high (s .self) (s .at) (search needs) (c .before .before .if1 .left) (c .word-remove3 .ensures)
 
 returns-3 : tie.Need-returns-3
 unfolding bits-of
-returns-3 c = let s = c .before .before in remove-none (s .args .self .low) (s .args .self .high) (s .args .at) (search needs) (search needs) (c .if2 .left)
+returns-3 c =
+    let s = c .before .before .args in
+    remove-none (s .self) (s .at) (search needs) (search needs) (c .if2 .left)
 
 pub remove-spec : {M : Type 1} → statement M
-remove-spec = tie.close (tie.spec word-remove-requires word-remove-requires-2 returns word-remove-requires-3 returns-2 returns-3)
+remove-spec = tie.close (tie.spec (λ c κs. search needs) (λ c κs. search needs) returns (λ c κs. search needs) returns-2 returns-3)

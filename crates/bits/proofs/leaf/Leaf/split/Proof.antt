@@ -7,7 +7,7 @@ use Rattle.bits.proofs.leaf.Leaf.split.Tie as tie
 
 returns : tie.Need-returns
 unfolding bits-of
-returns c = split-both (c .args .self .low) (c .args .self .high) (search needs) (search needs)
+returns c = split-both (c .args .self) (search needs) (search needs)
 
 pub split-spec : {M : Type 1} → statement M
 split-spec = tie.close (tie.spec returns)

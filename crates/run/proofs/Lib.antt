@@ -1,0 +1,4 @@
+pub mod Altered
+pub mod OneByOne
+pub mod Pinned
+pub mod Runs

@@ -1,0 +1,4 @@
+pub mod Fields
+pub mod Pinned
+pub mod Search
+pub mod Widths
