@@ -16,10 +16,11 @@ use Rattle.pool.specs.declared.node.Fork.{Fork}
 use Rattle.pool.specs.declared.node.Node.the-variants as Node
 use Rattle.tree.specs.declared.steps.Step.{Step}
 use Rattle.turn.specs.Apart.{Apart}
-use Rattle.turn.specs.Sites.{After, Leveled, Site, Stale, fork-at-heights, side}
+use Rattle.model.specs.Side.{side}
+use Rattle.turn.specs.Sites.{After, Leveled, Site, Stale, fork-at-heights}
 use Rattle.turn.proofs.Differences.{both, held, none}
 use Rattle.turn.proofs.Sites.{Altered, Around, after-level, after-leveled, stale}
-use Rattle.descent.specs.Stands.{Stands}
+use Rattle.descent.specs.SiteAt.{SiteAt}
 use Rattle.descent.proofs.Down.{Down, side-here}
 
 -- a change of height is handed on as a word
@@ -38,7 +39,7 @@ pub record Changed (w v : List ℕ) (n end head : ℕ) (by : ℤ) (left : Bool) 
   pub says : node-at v n ≡ Node.Fork (fork-at-heights (height l) (height r) (side left new l) (side left r new))
 
 pub changes : {w v : List ℕ} {n levels head head′ total index : ℕ} {by : ℤ} {f : Fork} {s : Step} {new : Tree} {free′ : List ℕ}
-    (b : Stands w n levels head total) (d : Down b index f s) → Altered (side (s .left) (d .l) (d .r)) new (b .free) free′
+    (b : SiteAt w n levels head total) (d : Down b index f s) → Altered (side (s .left) (d .l) (d .r)) new (b .free) free′
     → Around w v n (b .end) head′ by (side (s .left) (d .l) (d .r)) new (b .free) free′
     → node-at v n ≡ Node.Fork (fork-at-heights (height (d .l)) (height (d .r)) (side (s .left) new (d .l)) (side (s .left) (d .r) new))
     → Changed w v n (b .end) head′ by (s .left) (d .l) (d .r) new (b .free) free′

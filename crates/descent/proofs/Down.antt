@@ -18,9 +18,10 @@ use Rattle.pool.specs.declared.node.Node.the-variants as Node
 use Rattle.pool.proofs.Standing.{some-level}
 use Rattle.tree.specs.Stepping.{step-left, step-right}
 use Rattle.tree.specs.declared.steps.Step.{Step}
-use Rattle.turn.specs.Sites.{Site, side}
+use Rattle.model.specs.Side.{side}
+use Rattle.turn.specs.Sites.{Site}
 use Rattle.turn.proofs.Sites.{by-leaf-at, by-fork-at, site-child, top-apart}
-use Rattle.descent.specs.Stands.{Stands}
+use Rattle.descent.specs.SiteAt.{SiteAt}
 
 -- ---- what was read tells the tree
 
@@ -87,7 +88,7 @@ pub record Stepped (w : List ℕ) (n total index : ℕ) (f : Fork) (s : Step) : 
 -- ---- the child that a step leads to
 
 -- what was read tells the fork's children, and of them the one that the step leads to
-pub record Down {w : List ℕ} {n levels head total : ℕ} (b : Stands w n levels head total) (index : ℕ) (f : Fork) (s : Step) : Type 0 where
+pub record Down {w : List ℕ} {n levels head total : ℕ} (b : SiteAt w n levels head total) (index : ℕ) (f : Fork) (s : Step) : Type 0 where
   pub l : Tree
   pub r : Tree
   pub is : b .tree ≡ fork n l r
@@ -96,7 +97,7 @@ pub record Down {w : List ℕ} {n levels head total : ℕ} (b : Stands w n level
   pub total-is : size (fork n l r) ≡ total
   pub child : Reached s total index l r
 
-module _ {w : List ℕ} {n levels head total index : ℕ} {f : Fork} {s : Step} (b : Stands w n levels head total) where
+module _ {w : List ℕ} {n levels head total index : ℕ} {f : Fork} {s : Step} (b : SiteAt w n levels head total) where
   pub down : Stepped w n total index f s → Down b index f s
   down p =
       by-fork-at
@@ -117,7 +118,7 @@ module _ {w : List ℕ} {n levels head total index : ℕ} {f : Fork} {s : Step} 
     -- the child stands in words that are the same at its numbers and at the chain's
     abbrev pub child-stands : {v : List ℕ}
         → ((k : ℕ) → List·Memᴰ k (numbers (side (s .left) (d .l) (d .r)) ++ b .free) → node-at v k ≡ node-at w k)
-        → Stands v (s .child) (levels - 1) head (s .length)
+        → SiteAt v (s .child) (levels - 1) head (s .length)
     child-stands same =
         record {
           end = b .end;

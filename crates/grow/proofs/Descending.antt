@@ -28,7 +28,8 @@ use Rattle.pool.specs.declared.node.Node.the-variants as Node
 use Rattle.pool.proofs.Cells.{put-fork, fork-says, leaf-says}
 use Rattle.pool.proofs.Standing.{leaf-small}
 use Rattle.tree.specs.declared.steps.Step.{Step}
-use Rattle.turn.specs.Sites.{After, Site, fork-at-heights, side}
+use Rattle.model.specs.Side.{side}
+use Rattle.turn.specs.Sites.{After, Site, fork-at-heights}
 use Rattle.turn.proofs.Differences.{equal}
 use Rattle.turn.proofs.Sites.{around-first, by-fork-at, first-stays, top-apart}
 use Rattle.descent.proofs.Back.{Changed, Levels, ToLevel, changes, level, leveled, to-level}

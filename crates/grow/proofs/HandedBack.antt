@@ -15,7 +15,7 @@ use Rattle.model.proofs.Cases.{by-test}
 use Rattle.model.proofs.Distincts.{distinct-second}
 use Rattle.pool.specs.Layout.{first-of}
 use Rattle.pool.specs.declared.chain.Chain.{Chain}
-use Rattle.descent.specs.Stands.{Stands}
+use Rattle.descent.specs.SiteAt.{SiteAt}
 use Rattle.grow.specs.Inserting.{Inserted, InsertedInto, ToInsertInto, rest}
 
 -- a split moves the head
@@ -29,7 +29,7 @@ moves end (a ∷ b ∷ c ∷ cs) two once past e = once .0 (List·Memᴰ·tail (
 
 module _ {w w′ : List ℕ} {root head total index : ℕ} {chain : Chain} {by : ℤ} (bit : Bool)
     (q : ToInsertInto w root chain total index) (a : Inserted (q .place) w′ head by bit) where
-  abbrev at : Stands w root levels (chain .first) total
+  abbrev at : SiteAt w root levels (chain .first) total
   at = q .place .at
 
   -- the head is where it was: no leaf was split

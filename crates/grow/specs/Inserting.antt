@@ -20,7 +20,7 @@ use Rattle.pool.specs.Node.{nodes-in}
 use Rattle.pool.specs.declared.chain.Chain.{Chain}
 use Rattle.pool.specs.declared.node.Fork.{Fork}
 use Rattle.turn.specs.Sites.{After}
-use Rattle.descent.specs.Stands.{Stands, one-more}
+use Rattle.descent.specs.SiteAt.{SiteAt, one-more}
 
 -- what an insert leaves of the free numbers: where its leaf splits, all but the first two
 abbrev pub rest : Bool → List ℕ → List ℕ
@@ -69,7 +69,7 @@ Settled {w} {n} {total = total} b w′ head′ by =
 
 -- A mark can be put in at a place of the tree at n: two nodes are free where the place's leaf splits.
 pub record ToInsert (w : List ℕ) (n levels head total index : ℕ) : Type 0 where
-  pub at : Stands w n levels head total
+  pub at : SiteAt w n levels head total
   pub within : index ≤ total
   pub room : splits index (at .tree) ≡ true → 2 ≤ length (at .free)
 

@@ -9,12 +9,13 @@ ghost use Rattle.grow.specs.Inserting.{Inserted, InsertedInto, Settled, 
 use bits::Leaf;
 use pool::Chain;
 use pool::Fork;
+use pool::LEVELS;
+use pool::SPLIT_NODES;
 use pool::TreeNode;
 use pool::leaf_or_fork;
 use pool::next_free;
 use pool::set_fork;
 use pool::set_leaf;
-use tree::LEVELS;
 use tree::leaf_size;
 use tree::toward;
 use turn::child_changed;
@@ -24,9 +25,6 @@ use turn::stored;
 const LEAF_SPLIT: u64 = 128;
 
 const LEAF_HALF: u64 = 64;
-
-// A split takes two nodes.
-const SPLIT_NODES: u64 = 2;
 
 // Whether an insert at a place has room: two nodes may be taken, or its leaf does not split. Only where they may not
 // the leaf is looked for.

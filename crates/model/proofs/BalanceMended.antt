@@ -5,7 +5,8 @@ use native.Mathlib.Omega.{arith}
 use mathlib.Core.Path.{_≡_, refl, ap}
 use Rattle.model.specs.Tree.{Tree, leaf, fork, marks, size, height, renumber}
 use Rattle.model.specs.Turn.{rebalance}
-use Rattle.model.specs.Sound.{leaf-least, Balanced, Sized, Whole}
+use Rattle.model.specs.Edit.{leaf-least}
+use Rattle.model.specs.Sound.{Balanced, Sized, Whole}
 use Rattle.model.specs.Edit.{leaf-low, put-before, put-after, drop-first, drop-last, first-mark, last-mark, Trimmed, mend-left, mend-right, remove}
 use Rattle.model.proofs.Cases.{remove-cases, mend-left-cases, mend-right-cases}
 use Rattle.model.proofs.Content.{remove-size}

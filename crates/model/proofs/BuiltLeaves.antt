@@ -7,7 +7,8 @@ use mathlib.Core.List.{List, [], _∷_, reverseAux}
 use lib.ListN.{length, drop, length-take, length-drop}
 use Rattle.model.specs.Tree.{Tree}
 use Rattle.model.specs.Build.{leaf-built, leaf-count, built-leaves, round, foremost, rounds, build}
-use Rattle.model.specs.Sound.{leaf-least, Sized, Whole}
+use Rattle.model.specs.Edit.{leaf-least}
+use Rattle.model.specs.Sound.{Sized, Whole}
 use Rattle.model.proofs.Leaves.{sized-whole}
 use Rattle.model.proofs.Rounds.{build-keeps}
 

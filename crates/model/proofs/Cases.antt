@@ -9,7 +9,7 @@ use lib.ListN.{length, take, drop, getD}
 use borrow.Author.Tests.{leb-true, leb-false, ltb-true, ltb-false, eqb-true, eqb-false, lt-ltb, le-ltb}
 use Rattle.model.specs.Tree.{Tree, leaf, fork, top, marks, size, height, first-leaf, last-leaf, renumber}
 use Rattle.model.specs.Turn.{turn-right, turn-left, leaning-left, leaning-right, rebalance, higher-by}
-use Rattle.model.specs.Edit.{leaf-split, leaf-half, leaf-low, leaf-lean, splits, leaf-at, settle, insert, put-before, put-after, drop-first, drop-last, first-mark, last-mark, Trimmed, mend-left, mend-right, remove}
+use Rattle.model.specs.Edit.{leaf-split, leaf-half, leaf-low, leaf-least, splits, leaf-at, settle, insert, put-before, put-after, drop-first, drop-last, first-mark, last-mark, Trimmed, mend-left, mend-right, remove}
 
 -- what follows from a passed test and from a failed one follows
 pub by-test : {P : Type 0} (b : Bool) → (b ≡ true → P) → (b ≡ false → P) → P
@@ -91,26 +91,26 @@ remove-cases P i n l r p q = by-ltb i (size l) (λ e h. rw (remove, e) (p h)) (�
 
 -- a child left with too few marks is joined to the neighbouring leaf, or borrows a mark from it, and is else kept
 pub mend-left-cases : (P : Trimmed → Type 0) (n : ℕ) (t : Trimmed) (r : Tree)
-    → (size (t .tree) ≤ leaf-low → length (first-leaf r) ≤ leaf-lean
+    → (size (t .tree) ≤ leaf-low → length (first-leaf r) ≤ leaf-least
     → P (record { tree = renumber n (put-before (marks (t .tree)) r); freed = top r ∷ top (t .tree) ∷ t .freed }))
-    → (size (t .tree) ≤ leaf-low → leaf-lean < length (first-leaf r)
+    → (size (t .tree) ≤ leaf-low → leaf-least < length (first-leaf r)
     → P (record { tree = rebalance n (put-after (first-mark r) (t .tree)) (drop-first r); freed = t .freed }))
     → (leaf-low < size (t .tree) → P (record { tree = rebalance n (t .tree) r; freed = t .freed })) → P (mend-left n t r)
 unfolding mend-left
 mend-left-cases P n t r p q k =
     by-leb (size (t .tree)) leaf-low
-    (λ e h. by-leb (length (first-leaf r)) leaf-lean (λ f g. rw (mend-left, e, f) (p h g)) (λ f g. rw (mend-left, e, f) (q h g)))
+    (λ e h. by-leb (length (first-leaf r)) leaf-least (λ f g. rw (mend-left, e, f) (p h g)) (λ f g. rw (mend-left, e, f) (q h g)))
     (λ e h. rw (mend-left, e) (k h))
 
 -- the mirror image
 pub mend-right-cases : (P : Trimmed → Type 0) (n : ℕ) (l : Tree) (t : Trimmed)
-    → (size (t .tree) ≤ leaf-low → length (last-leaf l) ≤ leaf-lean
+    → (size (t .tree) ≤ leaf-low → length (last-leaf l) ≤ leaf-least
     → P (record { tree = renumber n (put-after (marks (t .tree)) l); freed = top (t .tree) ∷ top l ∷ t .freed }))
-    → (size (t .tree) ≤ leaf-low → leaf-lean < length (last-leaf l)
+    → (size (t .tree) ≤ leaf-low → leaf-least < length (last-leaf l)
     → P (record { tree = rebalance n (drop-last l) (put-before (last-mark l) (t .tree)); freed = t .freed }))
     → (leaf-low < size (t .tree) → P (record { tree = rebalance n l (t .tree); freed = t .freed })) → P (mend-right n l t)
 unfolding mend-right
 mend-right-cases P n l t p q k =
     by-leb (size (t .tree)) leaf-low
-    (λ e h. by-leb (length (last-leaf l)) leaf-lean (λ f g. rw (mend-right, e, f) (p h g)) (λ f g. rw (mend-right, e, f) (q h g)))
+    (λ e h. by-leb (length (last-leaf l)) leaf-least (λ f g. rw (mend-right, e, f) (p h g)) (λ f g. rw (mend-right, e, f) (q h g)))
     (λ e h. rw (mend-right, e) (k h))

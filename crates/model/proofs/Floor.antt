@@ -8,7 +8,8 @@ use lib.ListN.{length, length-append}
 use Rattle.model.specs.Edit.{leaf-at, splits, leaf-split}
 use Rattle.model.specs.Limits.{most-leaves, most-nodes, floor-for, least-full}
 use Rattle.model.specs.Pool.{Pool, full, numbers-from, two-free}
-use Rattle.model.specs.Sound.{Sized, Sound, Whole, leaf-least, leaf-most, all-numbers}
+use Rattle.model.specs.Edit.{leaf-least}
+use Rattle.model.specs.Sound.{Sized, Sound, Whole, leaf-most, all-numbers}
 use Rattle.model.specs.Tree.{Tree, leaf, fork, size, leaf-total, numbers}
 use Rattle.model.proofs.Cases.{by-leb, by-ltb, by-test}
 use Rattle.model.proofs.Depth.{node-total}

@@ -9,7 +9,8 @@ use lib.ListN.{length, length-take, length-drop}
 use Rattle.model.specs.Marks as Marks
 use Rattle.model.specs.Tree.{Tree, leaf, fork, top, marks, size}
 use Rattle.model.specs.Turn.{turn-right, turn-left, leaning-left, leaning-right, rebalance}
-use Rattle.model.specs.Sound.{leaf-least, Sized, Whole}
+use Rattle.model.specs.Edit.{leaf-least}
+use Rattle.model.specs.Sound.{Sized, Whole}
 use Rattle.model.specs.Edit.{leaf-split, leaf-half, settle, insert}
 use Rattle.model.proofs.Cases.{leaning-left-cases, leaning-right-cases, rebalance-cases, settle-cases, insert-cases}
 use Rattle.model.proofs.MarksEdits.{length-insert}

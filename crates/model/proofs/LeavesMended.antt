@@ -7,7 +7,8 @@ use mathlib.Core.Bool.{Bool}
 use mathlib.Core.List.{List}
 use lib.ListN.{length, length-append, length-take, length-drop}
 use Rattle.model.specs.Tree.{Tree, leaf, fork, top, marks, size, first-leaf, last-leaf, renumber}
-use Rattle.model.specs.Sound.{leaf-least, leaf-most, Sized, Whole}
+use Rattle.model.specs.Edit.{leaf-least}
+use Rattle.model.specs.Sound.{leaf-most, Sized, Whole}
 use Rattle.model.specs.Edit.{leaf-low, put-before, put-after, drop-first, drop-last, first-mark, last-mark, Trimmed, mend-left, mend-right, remove}
 use Rattle.model.proofs.Cases.{remove-cases, mend-left-cases, mend-right-cases}
 use Rattle.model.proofs.MarksEdits.{length-remove}

@@ -10,7 +10,8 @@ use lib.ListN.{length, getD}
 use borrow.Author.Tests.{le-leb, lt-leb}
 use Rattle.model.specs.Tree.{Tree, leaf, fork, top, marks, size, numbers, renumber}
 use Rattle.model.specs.Turn.{turn-right, turn-left, leaning-left, leaning-right, rebalance}
-use Rattle.model.specs.Sound.{leaf-least, Sized, Whole}
+use Rattle.model.specs.Edit.{leaf-least}
+use Rattle.model.specs.Sound.{Sized, Whole}
 use Rattle.model.specs.Edit.{leaf-split, leaf-low, leaf-at, splits, settle, insert, put-before, put-after, drop-first, drop-last, first-mark, last-mark, Trimmed, mend-left, mend-right, remove}
 use Rattle.model.proofs.Cases.{leaning-left-cases, leaning-right-cases, rebalance-cases, settle-cases, insert-cases, splits-left, splits-right, remove-cases, mend-left-cases, mend-right-cases}
 use Rattle.model.proofs.MarksEdits.{length-insert}

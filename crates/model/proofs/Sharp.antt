@@ -14,7 +14,8 @@ use Rattle.model.specs.Edit.{leaf-at}
 use Rattle.model.specs.Limits.{floor-for, most-leaves}
 use Rattle.model.specs.Pool.{Pool, build, nodes-for, numbers-from}
 use Rattle.model.specs.Sharp.{Becomes, Change, Reached, Sharp, out}
-use Rattle.model.specs.Sound.{Sound, Whole, leaf-least, leaf-most}
+use Rattle.model.specs.Edit.{leaf-least}
+use Rattle.model.specs.Sound.{Sound, Whole, leaf-most}
 use Rattle.model.specs.Tree.{Tree, leaf, fork, first-leaf, leaf-total, size}
 use Rattle.model.proofs.Floor.{leaf-at-most, leaves-some, means-full, sound-leaves, whole-sized}
 use Rattle.model.proofs.NumbersFrom.{numbers-from-length}

@@ -15,7 +15,8 @@ use Rattle.model.specs.Edit.{Trimmed, leaf-at, leaf-split, put-before, s
 use Rattle.model.specs.Sharp.{Becomes, Change, out, put}
 use Rattle.model.specs.Marks as Marks
 use Rattle.model.specs.Pool.{Pool, insert, remove, two-free}
-use Rattle.model.specs.Sound.{Balanced, Sized, Sound, leaf-least, leaf-most}
+use Rattle.model.specs.Edit.{leaf-least}
+use Rattle.model.specs.Sound.{Balanced, Sized, Sound, leaf-most}
 use Rattle.model.specs.Tree.{Tree, leaf, fork, first-leaf, last-leaf, leaf-total, size}
 use Rattle.model.specs.Turn.{rebalance}
 use Rattle.model.proofs.Balance.{rebalance-level}

@@ -20,9 +20,10 @@ leaf-half = 64
 abbrev pub leaf-low : ℕ
 leaf-low = 32
 
--- the neighbouring leaf is joined where it holds at most this many, and lends a mark where it holds more
-abbrev pub leaf-lean : ℕ
-leaf-lean = 33
+-- a leaf of several that is not the rightmost holds at least this many marks: so a neighbouring leaf is joined where it
+-- holds no more, and lends a mark where it holds more
+abbrev pub leaf-least : ℕ
+leaf-least = 33
 
 -- ---- insert
 
@@ -90,7 +91,7 @@ pub record Trimmed : Type 0 where
 unfoldable pub mend-left : ℕ → Trimmed → Tree → Trimmed
 mend-left n t r =
     elim (leb (size (t .tree)) leaf-low) [
-      | true ↦ elim (leb (length (first-leaf r)) leaf-lean) [
+      | true ↦ elim (leb (length (first-leaf r)) leaf-least) [
         | true ↦ record { tree = renumber n (put-before (marks (t .tree)) r); freed = top r ∷ top (t .tree) ∷ t .freed }
         | false ↦ record { tree = rebalance n (put-after (first-mark r) (t .tree)) (drop-first r); freed = t .freed }
       ]
@@ -101,7 +102,7 @@ mend-left n t r =
 unfoldable pub mend-right : ℕ → Tree → Trimmed → Trimmed
 mend-right n l t =
     elim (leb (size (t .tree)) leaf-low) [
-      | true ↦ elim (leb (length (last-leaf l)) leaf-lean) [
+      | true ↦ elim (leb (length (last-leaf l)) leaf-least) [
         | true ↦ record { tree = renumber n (put-after (marks (t .tree)) l); freed = top (t .tree) ∷ top l ∷ t .freed }
         | false ↦ record { tree = rebalance n (drop-last l) (put-before (last-mark l) (t .tree)); freed = t .freed }
       ]

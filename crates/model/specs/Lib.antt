@@ -7,6 +7,7 @@ pub mod Pool
 pub mod Reference
 pub mod Says
 pub mod Sharp
+pub mod Side
 pub mod Sound
 pub mod Tree
 pub mod Turn

@@ -1,6 +1,7 @@
 -- What so many nodes have room for: leaves, levels, and the fewest marks at which an insert can find no room.
 use Prim.Native.Nat.{ℕ, zero, suc, _+_, _*_, _/_}
-use Rattle.model.specs.Sound.{leaf-least, leaf-most}
+use Rattle.model.specs.Edit.{leaf-least}
+use Rattle.model.specs.Sound.{leaf-most}
 
 -- the most nodes that a pool has; a window's pool has so many
 abbrev pub most-nodes : ℕ

@@ -3,13 +3,11 @@ use Prim.Native.Nat.{ℕ, zero, suc, _+_, _≤_}
 use mathlib.Core.Path.{_≡_}
 use mathlib.Core.List.{List, [], _∷_, _++_, List·Memᴰ}
 use lib.ListN.{length}
+use Rattle.model.specs.Edit.{leaf-least}
 use Rattle.model.specs.Pool.{Pool, numbers-from}
 use Rattle.model.specs.Tree.{Tree, leaf, fork, height, numbers}
 
--- a leaf of several that is not the rightmost holds at least this many marks, and no leaf holds more than leaf-most
-abbrev pub leaf-least : ℕ
-leaf-least = 33
-
+-- no leaf holds more than this many marks
 abbrev pub leaf-most : ℕ
 leaf-most = 127
 

@@ -1,4 +1,4 @@
--- How far the program has come in an input: some lines, each by `script::play`, each from where the one before it left off.
+-- How far the program has come in an input: some lines, each by `script::play` from where the one before it left off.
 use Prim.Native.Nat.{ℕ, _<_}
 use mathlib.Core.List.{List}
 use lib.ListN.{length}

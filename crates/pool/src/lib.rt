@@ -1,11 +1,16 @@
 // The nodes of a pool: six words each, read and written whole by their number, and the chain that the free ones form.
-// Nothing here knows a tree, and nothing above computes an address.
+// Of a tree only the limits are known here, and nothing above computes an address.
 mod chain;
+mod limits;
 mod node;
 
 pub use chain::Chain;
+pub use limits::LEAF_LEAST;
+pub use limits::LEVELS;
+pub use limits::MOST_NODES;
+pub use limits::NODE_WORDS;
+pub use limits::SPLIT_NODES;
 pub use node::Fork;
-pub use node::NODE_WORDS;
 pub use node::Node;
 pub use node::TreeNode;
 pub use node::balance_at;

@@ -6,15 +6,13 @@
 //     free        0, next free number, 0, 0, 0, 0
 //     leaf        1, low word, high word, 0, 0, 0
 //     fork        2, left, right, left total, left ones, balance + 2
+use crate::limits::NODE_WORDS;
 use bits::Leaf;
 ghost use mathlib.Core.Path.{_≡_};
 ghost use Prim.Native.Nat.{ℕ, _<_, _≤_};
 ghost use Rattle.pool.specs.Node.{LeafOrFork, OfTree, as-node, balance-in, cell-at, fork-cell, fork-in};
 ghost use Rattle.pool.specs.Node.{fork-words, free-cell, if-zero, leaf-cell, leaf-in, leaf-words, less-left};
 ghost use Rattle.pool.specs.Node.{lowered, next-in, node-at, node-of, nodes-in, of-kind, put, put-node};
-
-// The words of a node.
-pub const NODE_WORDS: u64 = 6;
 
 const FREE: u64 = 0;
 

@@ -13,9 +13,9 @@ ghost use Rattle.tree.specs.TreeAt.{TreeAt};
 ghost use Rattle.quiet.specs.Watching.{later, step, watched};
 use bits::Leaf;
 use bits::WORD_BITS;
+use pool::LEVELS;
 use pool::TreeNode;
 use pool::leaf_or_fork;
-use tree::LEVELS;
 
 // How far the visit has come: whether a strike was met, how many quiet frames have passed since the last one, and the
 // longest quiet between two strikes so far.

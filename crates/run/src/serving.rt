@@ -4,17 +4,13 @@ ghost use Rattle.order.specs.Asked.{asks};
 ghost use Rattle.window.specs.Layout.{Stands};
 ghost use Rattle.run.specs.Orders.{Served};
 use order::Answer;
+use pool::SPLIT_NODES;
 use serve::Held;
 use serve::serve;
+use window::NODE_WORDS;
 use window::Trailer;
 use window::set_trailer;
 use window::trailer_of;
-
-// The words of a node.
-const NODE_WORDS: usize = 6;
-
-// A split takes two nodes, and in a window it may take them where two are free.
-const SPLIT_NODES: u64 = 2;
 
 // Serves one order. Only an insert and a remove that are carried out change how many marks there are, and the trailer
 // is written only then.
@@ -31,6 +27,7 @@ pub fn served(pool: &mut [u64], n: usize, number: u64, second: u64, third: u64) 
         length: trailer.length,
         chain,
     };
+    // in a window two nodes may be taken where two are free
     let may = SPLIT_NODES <= chain.count;
     let done = serve(&mut pool[..end], held, may, number, second, third);
     let answer = done.answer;

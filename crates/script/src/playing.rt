@@ -18,13 +18,11 @@ use grammar::Load;
 use grammar::Order;
 use grammar::read;
 use order::Answer;
+use pool::MOST_NODES;
 use text::NEWLINE;
+use window::NODE_WORDS;
 
 const MOST_INPUT: usize = 16384;
-
-const MOST_NODES: u64 = 1023;
-
-const NODE_WORDS: usize = 6;
 
 // Where the next line begins, how many nodes the pool has now, and how many bytes were written.
 pub struct Next {

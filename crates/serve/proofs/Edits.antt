@@ -12,7 +12,7 @@ use Rattle.model.specs.Pool.{Pool}
 use Rattle.model.specs.Tree.{marks, size, numbers}
 use Rattle.model.proofs.Content.{insert-size, remove-size}
 use Rattle.pool.specs.declared.chain.Chain.{Chain}
-use Rattle.descent.specs.Stands.{Stands}
+use Rattle.descent.specs.SiteAt.{SiteAt}
 use Rattle.grow.specs.Inserting.{InsertedInto, ToAsk, ToInsertInto}
 use Rattle.shrink.specs.Removing.{RemovedFrom, ToRemoveFrom}
 use Rattle.shrink.specs.declared.removing.Removed.{Removed}
@@ -47,7 +47,7 @@ module _ {w : List ℕ} {end : ℕ} {h : Held} {may : Bool} {p : Pool} (s : ToSe
 
   -- ---- a mark is put in
 
-  abbrev stands : Stands w (h .root) levels (h .chain .first) (h .length)
+  abbrev stands : SiteAt w (h .root) levels (h .chain .first) (h .length)
   stands = record { end = end; tree = p .tree; free = p .free; site = s .site; total-is = s .total }
 
   abbrev pub to-ask : (i : ℕ) → i ≤ h .length → ToAsk w (h .root) (h .length) i

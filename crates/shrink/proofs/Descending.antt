@@ -36,7 +36,8 @@ use Rattle.pool.proofs.Cells.{put-fork, fork-says}
 use Rattle.pool.proofs.Standing.{chained-same, leaf-small, left-rooted, right-rooted}
 use Rattle.spine.proofs.Edits.{edited-leaf}
 use Rattle.tree.specs.declared.steps.Step.{Step}
-use Rattle.turn.specs.Sites.{After, Site, fork-at-heights, side}
+use Rattle.model.specs.Side.{side}
+use Rattle.turn.specs.Sites.{After, Site, fork-at-heights}
 use Rattle.turn.proofs.Differences.{equal, held, none}
 use Rattle.turn.proofs.Sites.{Altered, Around, site-child, around-last, top-apart, top-past, child-member, fork-rearranged}
 use Rattle.descent.proofs.Back.{Changed, Levels, ToLevel, after-held, changes, level, leveled, stale-now, to-level}

@@ -25,9 +25,9 @@ use Rattle.pool.specs.declared.node.Node.the-variants.{Leaf as leaf, Fork as fo
 use Rattle.pool.proofs.Cells.{fork-says}
 use Rattle.spine.specs.Edges.{Editable, ToPutBefore, ToPutAfter, ToDropFirst, ToDropLast, Taken}
 use Rattle.spine.proofs.Edits.{fork-left, fork-right}
-use Rattle.turn.specs.Sites.{side}
+use Rattle.model.specs.Side.{side}
 use Rattle.turn.proofs.Read.{Fields, fields}
-use Rattle.descent.specs.Stands.{one-more}
+use Rattle.descent.specs.SiteAt.{one-more}
 use Rattle.descent.proofs.Digits.{byte-digit, count-cons}
 use Rattle.shrink.specs.Mending.{Lent, Merged, Over, Short, ToBorrow, ToMerge, ToUncount, joined, one-less}
 use Rattle.shrink.proofs.Parts.{apart, forked, merged, once-child, once-other, rooted-same, top-not-child, top-not-other}

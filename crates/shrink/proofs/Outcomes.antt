@@ -22,7 +22,7 @@ use Rattle.pool.specs.Node.{fork-in, free-cell, node-at, put}
 use Rattle.pool.specs.declared.node.Fork.{Fork}
 use Rattle.pool.specs.declared.node.Node.the-variants.{Fork as fork}
 use Rattle.pool.proofs.Standing.{chained-same}
-use Rattle.turn.specs.Sites.{side}
+use Rattle.model.specs.Side.{side}
 use Rattle.turn.proofs.Differences.{equal, negated, none, same, some}
 use Rattle.shrink.specs.Mending.{Lent, Mended, Merged, Over, Short, ToBorrow, ToMeasure, ToMend, ToMerge}
 use Rattle.shrink.specs.Mending.{both-freed, joined, lent, mended, next-leaf}

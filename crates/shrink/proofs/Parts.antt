@@ -18,7 +18,7 @@ use Rattle.pool.specs.declared.node.Node.the-variants.{Leaf as leaf, Fork as fo
 use Rattle.pool.proofs.Cells.{put-leaf, put-fork, put-free, put-keeps, leaf-says, fork-says}
 use Rattle.pool.proofs.Standing.{holds-same, chained-same}
 use Rattle.spine.proofs.Edits.{once-left, once-right, top-not-left, top-not-right, not-both}
-use Rattle.turn.specs.Sites.{side}
+use Rattle.model.specs.Side.{side}
 
 -- ---- numbers
 

@@ -22,7 +22,7 @@ use Rattle.model.proofs.Leaves.{small-leaf}
 use Rattle.model.proofs.Numbers.{remove-numbers}
 use Rattle.model.proofs.Rearranged.{weigh-append, rearranged-sym, rearranged-member}
 use Rattle.model.proofs.Tops.{rebalance-top}
-use Rattle.turn.specs.Sites.{side}
+use Rattle.model.specs.Side.{side}
 use Rattle.turn.proofs.Sites.{Altered}
 use Rattle.descent.proofs.Digits.{count-cons}
 

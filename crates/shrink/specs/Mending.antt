@@ -8,7 +8,8 @@ use lib.IntN.{ℤ}
 use lib.ListN.{length}
 use Rattle.model.specs.Edit.{Trimmed, drop-first, drop-last, first-mark, last-mark, leaf-low, mend-left, mend-right}
 use Rattle.model.specs.Edit.{put-after, put-before}
-use Rattle.model.specs.Sound.{Distinct, leaf-least}
+use Rattle.model.specs.Edit.{leaf-least}
+use Rattle.model.specs.Sound.{Distinct}
 use Rattle.model.specs.Tree as Tree
 use Rattle.model.specs.Tree.{Tree, marks, size, height, numbers, first-leaf, last-leaf, renumber}
 use Rattle.model.specs.Word.{digit}
@@ -16,7 +17,8 @@ use Rattle.pool.specs.Layout.{Chained, Edited, Rooted, first-of, fork-of}
 use Rattle.pool.specs.Node.{free-cell, less-left, node-at, put}
 use Rattle.pool.specs.declared.node.Fork.{Fork}
 use Rattle.pool.specs.declared.node.Node.the-variants.{Fork as fork}
-use Rattle.turn.specs.Sites.{After, side}
+use Rattle.model.specs.Side.{side}
+use Rattle.turn.specs.Sites.{After}
 
 -- ---- a fork's totals
 

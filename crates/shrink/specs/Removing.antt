@@ -13,12 +13,12 @@ use Rattle.model.specs.Tree.{marks, numbers}
 use Rattle.pool.specs.Layout.{Chained, Edited, first-of}
 use Rattle.pool.specs.declared.chain.Chain.{Chain}
 use Rattle.turn.specs.Sites.{After}
-use Rattle.descent.specs.Stands.{Stands}
+use Rattle.descent.specs.SiteAt.{SiteAt}
 use Rattle.shrink.specs.declared.removing.Removed.{Removed}
 
 -- there is a mark at a place of the tree at n
 pub record ToRemove (w : List ℕ) (n levels head total index : ℕ) : Type 0 where
-  pub at : Stands w n levels head total
+  pub at : SiteAt w n levels head total
   pub within : index < total
 
 module _ {w : List ℕ} {n levels head total index : ℕ} (b : ToRemove w n levels head total index) where

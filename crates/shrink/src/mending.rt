@@ -6,11 +6,12 @@ ghost use Prim.Native.Nat.{_+_, _<_, _^_};
 ghost use lib.ListN as ListN;
 ghost use Rattle.bits.specs.Leaf.{leaf-of};
 ghost use Rattle.pool.specs.Node.{fork-cell, fork-in, node-at, put};
-ghost use Rattle.descent.specs.Stands.{one-more};
+ghost use Rattle.descent.specs.SiteAt.{one-more};
 ghost use Rattle.shrink.specs.Mending.{Lent, Mended, Merged, ToBorrow, ToMeasure, ToMend, ToMerge, ToUncount};
 ghost use Rattle.shrink.specs.Mending.{both-freed, next-leaf, one-less};
 use bits::Leaf;
 use pool::Fork;
+use pool::LEAF_LEAST;
 use pool::fork_at;
 use pool::leaf_at;
 use pool::less_left;
@@ -23,10 +24,6 @@ use spine::first_leaf_size;
 use spine::last_leaf_size;
 use spine::put_after;
 use spine::put_before;
-
-// The fewest marks that a leaf keeps beside another. A leaf of so many that loses one is mended; the neighbouring leaf
-// is joined to it where it holds at most as many, and lends a mark where it holds more.
-pub const LEAF_LEAST: u64 = 33;
 
 // A leaf of one mark.
 fn lone(bit: bool) -> Leaf

@@ -1,18 +1,16 @@
 // Taking a mark out of a tree, by recursion on node numbers.
 ghost use Rattle.shrink.specs.Removing.{Gone, RemovedFrom, ToRemove, ToRemoveFrom};
-use crate::mending::LEAF_LEAST;
 use crate::mending::mend;
 use crate::mending::uncount;
 use pool::Chain;
+use pool::LEAF_LEAST;
+use pool::LEVELS;
+use pool::SPLIT_NODES;
 use pool::TreeNode;
 use pool::leaf_or_fork;
 use pool::set_leaf;
-use tree::LEVELS;
 use tree::toward;
 use turn::child_changed;
-
-// A merge frees two nodes.
-const MERGE_NODES: u64 = 2;
 
 // The mark that was taken out, and the free chain.
 pub struct Removed {
@@ -72,7 +70,7 @@ pub fn remove(nodes: &mut [u64], root: u64, length: u64, chain: Chain, index: u6
     }
     let after = Chain {
         first: head,
-        count: chain.count + MERGE_NODES,
+        count: chain.count + SPLIT_NODES,
     };
     Removed { bit, chain: after }
 }

@@ -6,7 +6,7 @@ use mathlib.Core.Bool.{Bool, true, false}
 use mathlib.Core.List.{List, [], _∷_, _++_}
 use lib.ListN.{length, length-append}
 use Rattle.model.specs.Marks.{count, ones}
-use Rattle.model.specs.Sound.{leaf-least}
+use Rattle.model.specs.Edit.{leaf-least}
 use Rattle.model.specs.Tree as Tree
 use Rattle.model.specs.Tree.{Tree, top, marks, size, height, numbers}
 use Rattle.model.proofs.Counting.{count-append}

@@ -20,7 +20,8 @@ use Rattle.pool.specs.declared.node.Fork.{Fork}
 use Rattle.pool.specs.declared.node.Node.the-variants.{Leaf as leaf, Fork as fork}
 use Rattle.pool.proofs.Cells.{put-leaf, put-fork, leaf-says, fork-says}
 use Rattle.pool.proofs.Standing.{holds-same, leaf-read, fork-read, left-rooted, right-rooted}
-use Rattle.spine.specs.Edges.{Editable, side, with-left}
+use Rattle.model.specs.Side.{side}
+use Rattle.spine.specs.Edges.{Editable, with-left}
 
 -- ---- each number of a fork stands once
 

@@ -4,6 +4,7 @@ use mathlib.Core.Path.{_≡_}
 use mathlib.Core.Bool.{Bool, true, false}
 use mathlib.Core.List.{List, [], _∷_}
 use lib.ListN.{length}
+use Rattle.model.specs.Side.{side}
 use Rattle.model.specs.Marks.{count}
 use Rattle.model.specs.Sound.{Distinct}
 use Rattle.model.specs.Tree as Tree
@@ -13,11 +14,6 @@ use Rattle.bits.specs.declared.leaf.Leaf.{Leaf}
 use Rattle.pool.specs.Layout.{Rooted, Edited}
 use Rattle.pool.specs.declared.node.Fork.{Fork}
 use Rattle.spine.specs.declared.edges.LastLeaf.{LastLeaf}
-
--- one of two, by whether it is the left one
-abbrev pub side : {A : Type 0} → Bool → A → A → A
-side true x y = x
-side false x y = y
 
 -- a fork, with other totals of its left child
 abbrev pub with-left : Fork → ℕ → ℕ → Fork

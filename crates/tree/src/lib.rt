@@ -10,6 +10,3 @@ pub use query::rank;
 pub use query::select;
 pub use steps::Step;
 pub use steps::toward;
-
-// No leaf is more than this many levels down.
-pub const LEVELS: u64 = 12;

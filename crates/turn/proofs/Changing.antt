@@ -15,7 +15,8 @@ use Rattle.pool.specs.declared.node.Node.the-variants as Node
 use Rattle.pool.proofs.Cells.{fork-says, put-fork}
 use Rattle.pool.proofs.Standing.{holds-same}
 use Rattle.turn.specs.Apart.{Apart}
-use Rattle.turn.specs.Sites.{Leveled, Stale, Stores, side, with-balance}
+use Rattle.model.specs.Side.{side}
+use Rattle.turn.specs.Sites.{Leveled, Stale, Stores, with-balance}
 use Rattle.turn.specs.Words.{Evened, Uneven}
 use Rattle.turn.proofs.Read.{fork-same, fork-size}
 

@@ -18,7 +18,7 @@ use Rattle.model.proofs.Rearranged.{rearranged-sym, rearranged-member, rearrang
 use Rattle.pool.specs.Layout.{fork-of, Edited}
 use Rattle.pool.specs.Node.{OfTree, balance-in, node-at}
 use Rattle.turn.specs.Forks.{Leans, joined}
-use Rattle.turn.specs.Sites.{side}
+use Rattle.model.specs.Side.{side}
 use Rattle.turn.specs.Words.{Standing, Turns, Child, Uneven, Moved, Evened, leaning, turn, unturned}
 use Rattle.turn.proofs.Differences.{equal, none, none-or-one, held}
 use Rattle.turn.proofs.Joined.{joined-height, joined-parts, joined-size}

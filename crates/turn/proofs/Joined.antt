@@ -15,7 +15,8 @@ use Rattle.pool.specs.Node.{node-at}
 use Rattle.pool.specs.declared.node.Fork.{Fork}
 use Rattle.pool.specs.declared.node.Node.the-variants as Node
 use Rattle.turn.specs.Forks.{joined, over}
-use Rattle.turn.specs.Sites.{Stores, side}
+use Rattle.model.specs.Side.{side}
+use Rattle.turn.specs.Sites.{Stores}
 use Rattle.turn.specs.Words.{turn}
 
 -- ---- the tree

@@ -11,7 +11,7 @@ use Rattle.model.proofs.Cases.{leaning-left-cases, leaning-right-cases}
 use Rattle.model.proofs.Content.{turn-left-marks, turn-right-marks}
 use Rattle.model.proofs.Numbers.{numbers-weight, turn-left-weight, turn-right-weight}
 use Rattle.turn.specs.Forks.{Leans, joined}
-use Rattle.turn.specs.Sites.{side}
+use Rattle.model.specs.Side.{side}
 use Rattle.turn.specs.Words.{leaning, turn}
 use Rattle.turn.proofs.Joined.{by-sides, joined-height, joined-balanced, turned-is}
 

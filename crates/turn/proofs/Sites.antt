@@ -24,7 +24,8 @@ use Rattle.pool.specs.declared.node.Node.{Node}
 use Rattle.pool.specs.declared.node.Node.the-variants as Node
 use Rattle.pool.proofs.Standing.{holds-same, chained-same, by-leaf, by-fork, left-rooted, right-rooted}
 use Rattle.turn.specs.Apart.{Apart}
-use Rattle.turn.specs.Sites.{Site, After, Stale, Leveled, side, fork-at-heights}
+use Rattle.model.specs.Side.{side}
+use Rattle.turn.specs.Sites.{Site, After, Stale, Leveled, fork-at-heights}
 use Rattle.turn.proofs.Differences.{equal, none}
 use Rattle.turn.proofs.Read.{fork-size}
 

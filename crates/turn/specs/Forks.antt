@@ -8,7 +8,7 @@ use Rattle.model.specs.Tree.{Tree, fork, size, height}
 use Rattle.pool.specs.Layout.{fork-of}
 use Rattle.pool.specs.declared.node.Fork.{Fork}
 use Rattle.turn.specs.Apart.{Apart}
-use Rattle.turn.specs.Sites.{side}
+use Rattle.model.specs.Side.{side}
 use Rattle.turn.specs.declared.turning.Forks.{Forks}
 
 -- the fork of one tree on this side and of another on the other side, and what it says

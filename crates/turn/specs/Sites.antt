@@ -4,6 +4,7 @@ use mathlib.Core.Path.{_≡_}
 use mathlib.Core.Bool.{Bool, true, false}
 use mathlib.Core.List.{List, _++_}
 use lib.IntN.{ℤ}
+use Rattle.model.specs.Side.{side}
 use Rattle.model.specs.Marks.{count}
 use Rattle.model.specs.Sound.{Balanced, Distinct, Whole}
 use Rattle.model.specs.Tree.{Tree, top, marks, size, height, numbers}
@@ -33,11 +34,6 @@ pub record After (w w′ : List ℕ) (end head : ℕ) (by : ℤ) (t t′ : Tree)
   pub chained : Chained w′ end free′
   pub first : first-of end free′ ≡ head
   pub change : Apart by (height t′) (height t)
-
--- one of two, by whether it is the left one
-abbrev pub side : {A : Type 0} → Bool → A → A → A
-side true x y = x
-side false x y = y
 
 -- s is what a fork stores whose child on this side has the first height, and the other one the second: by how much the
 -- right child is higher than the left one, and two more

@@ -11,7 +11,7 @@ use Rattle.model.specs.Turn.{leaning-left, leaning-right, rebalance, turn-left,
 use Rattle.pool.specs.Layout.{Holds, Edited}
 use Rattle.turn.specs.Apart.{Apart}
 use Rattle.turn.specs.Forks.{Leans, joined}
-use Rattle.turn.specs.Sites.{side}
+use Rattle.model.specs.Side.{side}
 
 -- the words hold a tree whose nodes have a number each
 pub record Standing (w : List ℕ) (t : Tree) : Type 0 where

@@ -13,7 +13,7 @@ ghost use Rattle.model.specs.Tree.{Tree, numbers};
 ghost use Rattle.pool.specs.Layout.{Edited};
 ghost use Rattle.turn.specs.Apart.{Balances};
 ghost use Rattle.turn.specs.Forks.{Heights, Risen, Rising};
-ghost use Rattle.turn.specs.Sites.{side};
+ghost use Rattle.model.specs.Side.{side};
 ghost use Rattle.turn.specs.Words.{Child, Evened, Moved, Turns, Uneven, leaning, turn, unturned};
 use crate::balance::above;
 use crate::balance::seen;

@@ -17,9 +17,9 @@ use bits::BLOCK_BITS;
 use bits::Leaf;
 use bits::TOP_BIT;
 use bits::WORD_BITS;
+use pool::LEVELS;
 use pool::TreeNode;
 use pool::leaf_or_fork;
-use tree::LEVELS;
 
 // How far the output has come: so many words are full, and `filled` marks of the next one wait in `word`.
 struct Tail {

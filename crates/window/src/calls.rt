@@ -2,7 +2,9 @@
 use crate::trailer::Trailer;
 use crate::trailer::set_trailer;
 use crate::trailer::trailer_of;
+use bits::WORD_BITS;
 use order::Answer;
+use pool::MOST_NODES;
 use sound::sound;
 use values::words_for;
 ghost use Prim.Native.Nat.{_*_, _<_};
@@ -12,14 +14,12 @@ ghost use Rattle.window.specs.Calls.{BuildsTo, Checked, Judges, Measures
 ghost use Rattle.window.specs.Layout.{Counted};
 
 // The words of a node, and of the trailer.
-const NODE_WORDS: usize = 6;
+pub const NODE_WORDS: usize = pool::NODE_WORDS as usize;
 
 // The fewest and the most words of a pool.
-const LEAST_WORDS: usize = 12;
+const LEAST_WORDS: usize = 2 * NODE_WORDS;
 
-const MOST_WORDS: usize = 6144;
-
-const WORD_BITS: u64 = 64;
+const MOST_WORDS: usize = (MOST_NODES as usize + 1) * NODE_WORDS;
 
 // Whether a pool stands in its words, with its trailer, or not.
 pub enum Judgement {

@@ -4,6 +4,7 @@ mod calls;
 mod trailer;
 
 pub use calls::Judgement;
+pub use calls::NODE_WORDS;
 pub use calls::build;
 pub use calls::check;
 pub use calls::judged;

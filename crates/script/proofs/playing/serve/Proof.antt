@@ -50,7 +50,8 @@ said : (r : tie.After-run) → let x = r .before .before .before .before in let 
     → Played (some (ordering (asks (a .order .number) (a .order .second) (a .order .third)))) s (desk (now (a .pool)) (a .nodes) (now (a .out)))
     (desk (r .run .last .0 ++ drop (x .extent .result) (now (a .pool))) (a .nodes) bytes) end
 said r s h c v end bytes e f t =
-    rw (r .before .before .before .before .extent .ensures) (order-played _ s _ _ _ (r .run .result) _ (r .run .last .1 .1 .0) c v end bytes (ordered r s h) e f t)
+    rw (r .before .before .before .before .extent .ensures)
+    (order-played _ s _ _ _ (r .run .result) _ (r .run .last .1 .1 .0) c v end bytes (ordered r s h) e f t)
 
 returns : tie.Need-returns
 returns c = λ s h.

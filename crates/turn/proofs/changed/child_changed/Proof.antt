@@ -12,7 +12,8 @@ use Rattle.pool.specs.Node.{Put}
 use Rattle.pool.specs.declared.node.Fork.{Fork}
 use Rattle.pool.specs.declared.node.Node.the-variants as Node
 use Rattle.turn.specs.Apart.{Apart}
-use Rattle.turn.specs.Sites.{Stale, Stores, side}
+use Rattle.model.specs.Side.{side}
+use Rattle.turn.specs.Sites.{Stale, Stores}
 use Rattle.turn.specs.Words.{Evened, Uneven}
 use Rattle.turn.proofs.Changing.{evened-near, higher-side, leveled, put-right, set-right, stale-stores, uneven}
 use Rattle.turn.proofs.Differences.{same, none, within, sum, minus, fits, kept, read, held}

@@ -6,7 +6,8 @@ use denote.Ref.{now}
 use lib.IntN.{ℤ, negsuc}
 use Rattle.model.specs.Tree.{Tree}
 use Rattle.turn.specs.Apart.{Apart}
-use Rattle.turn.specs.Sites.{Stores, side}
+use Rattle.model.specs.Side.{side}
+use Rattle.turn.specs.Sites.{Stores}
 use Rattle.turn.specs.Words.{Child}
 use Rattle.turn.proofs.Differences.{refuted, tested}
 use Rattle.turn.proofs.Evening.{child-node, child-turns, leant, stood}

@@ -10,7 +10,7 @@ use Rattle.pool.specs.declared.node.Fork.{Fork}
 use Rattle.turn.specs.Sites.{Site}
 
 -- a tree of so many marks stands at n, and the chain begins at `head`
-pub record Stands (w : List ℕ) (n levels head total : ℕ) : Type 0 where
+pub record SiteAt (w : List ℕ) (n levels head total : ℕ) : Type 0 where
   pub end : ℕ
   pub tree : Tree
   pub free : List ℕ
