@@ -182,11 +182,11 @@ fn round(nodes: &mut [u64], items: [Item; 512], count: u64, next: u64) -> [Item;
         made[to] = pair;
         i += 1;
     }
-    let at = (i * 2) as usize;
+    let to = i as usize;
+    let at = to * 2;
     let right = items[at];
     let left = items[at + 1];
     let pair = joined(nodes, next + i, left, right);
-    let to = i as usize;
     if count % 2 == 0 {
         made[to] = pair;
         return made;

@@ -170,16 +170,16 @@ fn put_lists(told: &mut [u8], replies: &[u64], out: &[u64], pool: &[u64], sizes:
 
 // Lends the parts of the pool, of the lists and of the output that a request names.
 fn serve_parts(
-    r: Request,
     size: usize,
-    words: &[u64],
     count: usize,
-    asked: &[u64],
     orders: usize,
+    room: usize,
+    r: Request,
+    pool: &mut [u64],
+    words: &[u64],
+    asked: &[u64],
     replies: &mut [u64],
     out: &mut [u64],
-    room: usize,
-    pool: &mut [u64],
 ) -> Calls
     requires { ⌜ size ≤ ListN.length (now pool) ⌝ }
     requires { ⌜ count ≤ ListN.length (now words) ⌝ }
@@ -232,16 +232,16 @@ fn serve_and_tell(
     requires { ⌜ 6150 ≤ ListN.length (now pool) ⌝ }
 {
     let calls = serve_parts(
-        r,
         size,
-        words,
         count,
-        asked,
         orders,
+        room,
+        r,
+        pool,
+        words,
+        asked,
         replies,
         out,
-        room,
-        pool,
     );
     let sizes = Sizes {
         two: orders * 2,

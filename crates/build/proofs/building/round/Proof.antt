@@ -91,8 +91,8 @@ returns-2 c =
     let k = c .before .before .joined3 in
     let size : length (j .last .0) ≡ length (s .nodes) = j .kept .0 in
     let again : length (k .last .0) ≡ length (j .last .0) = k .kept .0 in
-    let room = s .inv .2 in
     let kept = s .inv .1 in
+    let room = s .inv .2 in
     record {
       kept = omega arith;
       done = λ ts e b.
