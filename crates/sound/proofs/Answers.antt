@@ -1,30 +1,18 @@
 -- What an answer says where the fact holds, and where it does not.
-use Prim.Native.Nat.{ℕ}
+use Prim.Native.Nat.{ℕ, _≤_}
 use native.Mathlib.Omega.{arith}
 use mathlib.Core.Path.{_≡_, refl}
 use mathlib.Core.Bool.{Bool, true, false}
-use borrow.Author.Tests.{eqb-true, eq-eqb}
-use lib.Dec.{eqb}
+use borrow.Author.Tests.{eqb-true, eq-eqb, leb-true, le-leb}
+use lib.Dec.{eqb, leb}
 use Rattle.bits.specs.declared.leaf.Leaf.{Leaf}
 use Rattle.pool.specs.declared.node.Fork.{Fork}
 use Rattle.pool.specs.declared.node.Node.the-variants.{Free as free, Leaf as leaf, Fork as fork, Broken as bad}
 use Rattle.model.specs.Says.{Says}
-use Rattle.sound.specs.Answer.{Answered}
-use Rattle.sound.specs.declared.visit.Found.{Found}
-use Rattle.sound.specs.declared.visit.Seen.{Seen}
-use Rattle.sound.specs.declared.visit.Seen.the-variants.{Sound as sound, Broken as broken}
 
 -- no answer is both
 pub never : {A : Type 0} {b : Bool} → b ≡ true → b ≡ false → A
 never p q = let z : _≡_ {A = ℕ} 0 1 = cc in absurd (omega arith)
-
--- nor is what a visit has seen
-pub unseen : {A : Type 0} {f : Found} {r : Seen} → r ≡ sound f → r ≡ broken → A
-unseen p q = let z : _≡_ {A = ℕ} 0 1 = cc in absurd (omega arith)
-
--- one thing is found
-pub same-found : {f g : Found} {r : Seen} → r ≡ sound f → r ≡ sound g → f ≡ g
-same-found p q = cc
 
 module _ {P : Type 0} where
   -- the fact does not hold
@@ -35,12 +23,8 @@ module _ {P : Type 0} where
   pub says-same : (m n : ℕ) → (m ≡ n → P) → (P → m ≡ n) → Says P (eqb m n)
   says-same m n p q = record { yes = λ e. p (eqb-true m n e); no = λ h. eq-eqb m n (q h) }
 
-  -- the same of what is found
-  pub answered-yes : {f : Found} → P → Answered P f (sound f)
-  answered-yes {f} p = record { yes = λ g e. (p, same-found e refl); no = λ _. refl }
-
-  pub answered-no : {f : Found} → (P → ⊥) → Answered P f broken
-  answered-no n = record { yes = λ g e. unseen e refl; no = λ p. absurd (n p) }
+  pub says-most : (m n : ℕ) → (m ≤ n → P) → (P → m ≤ n) → Says P (leb m n)
+  says-most m n p q = record { yes = λ e. p (leb-true m n e); no = λ h. le-leb m n (q h) }
 
 -- ---- no node is of two kinds
 

@@ -1,6 +1,7 @@
 pub mod Answers
 pub mod Bitmap
 pub mod Chains
+pub mod Edges
 pub mod Padding
 pub mod Parts
 pub mod Pigeonhole

@@ -1,5 +1,5 @@
--- Numbers below n of which none stands twice can be made up to all the numbers below n. So there are at most n, and n of them are all.
-use Prim.Native.Nat.{ℕ, zero, suc, _+_, _≤_, _<_}
+-- Numbers below n of which none stands twice can be made up to all the numbers below n. So n of them are all.
+use Prim.Native.Nat.{ℕ, zero, suc, _+_, _<_}
 use native.Mathlib.Numerals.{add-one}
 use native.Mathlib.Omega.{arith}
 use mathlib.Core.Path.{_≡_, refl, sym, ap, _∙_}
@@ -86,10 +86,6 @@ made-up : (n : ℕ) (ks : List ℕ) (c : Completed n ks) → n ≡ length ks + l
 made-up n ks c =
     sym (numbers-from-length 0 n) ∙ rearranged-length (numbers-from 0 n) (ks ++ c .0) (λ w. c .1 w ∙ sym (weigh-append w ks (c .0)))
     ∙ length-append ks (c .0)
-
--- there are at most n
-pub few : (n : ℕ) (ks : List ℕ) → Distinct ks → ((k : ℕ) → List·Memᴰ k ks → k < n) → length ks ≤ n
-few n ks d low = omega (arith, made-up n ks (completed n ks d low))
 
 rest-none : (n : ℕ) (ks rest : List ℕ) → length rest ≡ 0 → ((w : ℕ → ℕ) → weigh w (numbers-from 0 n) ≡ weigh w ks + weigh w rest)
     → Rearranged (numbers-from 0 n) ks

@@ -1,4 +1,3 @@
-pub mod Answer
 pub mod Judged
 pub mod Links
 pub mod Met

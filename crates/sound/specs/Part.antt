@@ -1,9 +1,11 @@
--- A subtree that stands in some node words from a number down, and what a visit answers of it.
-use Prim.Native.Nat.{ℕ, zero, _+_, _≤_, max}
+-- A subtree that stands in some node words from a number down, of which all is claimed from above, and what a visit
+-- answers of it: how many more nodes there is room for, or nothing.
+use Prim.Native.Nat.{ℕ, _+_, _≤_, _<_}
 use mathlib.Core.Path.{_≡_}
 use mathlib.Core.Bool.{Bool, true}
 use mathlib.Core.List.{List}
 use lib.ListN.{length, take}
+use Rattle.model.specs.Limits.{levels as deepest}
 use Rattle.model.specs.Marks.{count}
 use Rattle.model.specs.Sound.{Balanced, Sized, leaf-most}
 use Rattle.model.specs.Tree.{Tree, top, marks, size, height, numbers}
@@ -11,12 +13,12 @@ use Rattle.bits.specs.Leaf.{bits-of, leaf-of}
 use Rattle.bits.specs.declared.leaf.Leaf.{Leaf}
 use Rattle.pool.specs.Layout.{Holds}
 use Rattle.pool.specs.declared.node.Fork.{Fork}
-use Rattle.pool.specs.declared.node.Node.{Node}
-use Rattle.pool.specs.declared.node.Node.the-variants.{Free as free, Leaf as leaf, Fork as fork, Broken as broken}
 use Rattle.sound.specs.Met.{Fresh, Marked}
-use Rattle.sound.specs.declared.visit.Found.{Found}
-use Rattle.sound.specs.declared.visit.Seen.{Seen}
-use Rattle.sound.specs.declared.visit.Seen.the-variants.{Sound as sound}
+use Rattle.sound.specs.declared.edge.Edge.{Edge}
+
+-- the most levels of nodes, a leaf's among them
+abbrev pub most-levels : ℕ
+most-levels = deepest + 1
 
 -- ---- one node
 
@@ -24,68 +26,53 @@ use Rattle.sound.specs.declared.visit.Seen.the-variants.{Sound as sound}
 abbrev pub held : Leaf → ℕ → List Bool
 held x n = take n (bits-of x)
 
--- a leaf holds so many marks, no fewer than `least`, and nothing past them
-pub record Filled (x : Leaf) (n least : ℕ) : Type 0 where
+-- a leaf holds so many marks, no fewer than `least`, so many of them strikes, and nothing past them; it is one level
+pub record Filled (x : Leaf) (n strikes least levels : ℕ) : Type 0 where
+  pub low : levels ≡ 1
   pub enough : least ≤ n
   pub most : n ≤ leaf-most
   pub ends : x ≡ leaf-of (held x n)
+  pub ones : count true (held x n) ≡ strikes
 
-unfoldable pub filled : Leaf → ℕ → Found
-filled x n = record { height = zero; ones = count true (held x n); nodes = 1 }
-
--- a stored balance, two greater than right height less left height, is true and within one level
-abbrev pub even-balance : ℕ → ℕ → ℕ → Type 0
-even-balance balance left right = (1 ≤ balance) × (balance ≤ 3) × (balance + left ≡ right + 2)
-
--- what a fork says is true of what was found of its children
-pub record Agrees (f : Fork) (left right : Found) : Type 0 where
-  pub ones : f .«left_ones» ≡ left .ones
-  pub even : even-balance (f .balance) (left .height) (right .height)
-
--- the height over two heights
-abbrev pub higher : ℕ → ℕ → ℕ
-higher left right = max left right + 1
-
-unfoldable pub over : Found → Found → Found
-over left right =
-    record {
-      height = higher (left .height) (right .height);
-      ones = left .ones + right .ones;
-      nodes = left .nodes + right .nodes + 1;
-    }
-
--- the fewest marks that the last leaf of a whole tree may hold, by the node at its top
-abbrev pub least-of : Node → ℕ
-least-of (fork f) = 1
-least-of (leaf x) = zero
-least-of (free k) = zero
-least-of broken = zero
+-- what a fork says may be true of a tree of so many marks, strikes and levels
+pub record Agrees (f : Fork) (total strikes levels : ℕ) : Type 0 where
+  pub high : 2 ≤ levels
+  pub leans : 1 ≤ f .balance
+  pub even : f .balance ≤ 3
+  pub marks : f .«left_total» ≤ total
+  pub ones : f .«left_ones» ≤ strikes
 
 -- ---- a subtree
 
--- what is found of a tree
-unfoldable pub found-of : Tree → Found
-found-of t = record { height = height t; ones = count true (marks t); nodes = length (numbers t) }
-
--- A tree stands in these words from n down. It holds so many marks and is balanced, no leaf is too full or too empty,
--- the rightmost holds at least `least`, and it has no more than so many levels.
-pub record Part (w : List ℕ) (n total least levels : ℕ) (t : Tree) : Type 0 where
+-- A tree stands in these words from n down. It holds so many marks, so many of them strikes, and is balanced, no leaf
+-- is too full or too empty, the rightmost holds at least `least`, and it has so many levels.
+pub record Part (w : List ℕ) (least n total strikes levels : ℕ) (t : Tree) : Type 0 where
   pub at : top t ≡ n
   pub holds : Holds w t
   pub counts : size t ≡ total
+  pub ones : count true (marks t) ≡ strikes
   pub sized : Sized least t
   pub balanced : Balanced t
-  pub deep : height t ≤ levels
+  pub tall : height t + 1 ≡ levels
+
+-- what the right edge tells: no more levels than there can be, and what is so of every tree of so many marks there
+pub record Told (w : List ℕ) (n total : ℕ) (e : Edge) : Type 0 where
+  pub low : e .levels ≤ most-levels
+  pub so : (least strikes levels : ℕ) (t : Tree) → Part w least n total strikes levels t → levels ≤ most-levels
+      → (e .ones ≡ strikes) × (e .levels ≡ levels)
 
 -- what a visit has found, and met on the way
-pub record Walked (w met met′ : List ℕ) (n total least levels : ℕ) (f : Found) (t : Tree) : Type 0 where
-  pub part : Part w n total least levels t
+pub record Walked (w : List ℕ) (least : ℕ) (met : List ℕ) (n total strikes levels room : ℕ) (met′ : List ℕ) (r : ℕ)
+    (t : Tree) : Type 0 where
+  pub part : Part w least n total strikes levels t
   pub fresh : Fresh met (numbers t)
   pub marked : Marked met met′ (numbers t)
-  pub found : f ≡ found-of t
+  pub rest : r + length (numbers t) ≡ room
 
--- a tree is found where one stands whose nodes are all fresh, and nowhere else
-pub record Visited (w met met′ : List ℕ) (n total least levels : ℕ) (r : Seen) : Type 0 where
-  pub yes : (f : Found) → r ≡ sound f → (t : Tree) × Walked w met met′ n total least levels f t
-  pub no : (t : Tree) → Part w n total least levels t → Fresh met (numbers t)
-      → (r ≡ sound (found-of t)) × Marked met met′ (numbers t)
+-- a tree is found where one stands whose nodes are all fresh, with fewer of them than there is room for, and nowhere
+-- else
+pub record Visited (w : List ℕ) (least : ℕ) (met : List ℕ) (n total strikes levels room : ℕ) (met′ : List ℕ) (r : ℕ)
+    : Type 0 where
+  pub yes : 1 ≤ r → (t : Tree) × Walked w least met n total strikes levels room met′ r t
+  pub no : (t : Tree) → Part w least n total strikes levels t → Fresh met (numbers t) → length (numbers t) < room
+      → (r + length (numbers t) ≡ room) × Marked met met′ (numbers t)

@@ -1,8 +1,6 @@
 // Which nodes have been met: a bit for each node, 64 to a word.
+use bits::WORD_BITS;
 ghost use Rattle.sound.specs.Met.{Meets};
-
-// The bits of a word.
-const WORD_BITS: u64 = 64;
 
 // Marks node n as met, and says whether it was not before. A number for which there is no bit counts as met.
 pub fn meet(met: &mut [u64], n: u64) -> bool

@@ -1,151 +1,133 @@
-// Whether a tree stands in some node words from a number down, with as many marks as its parent says. Every node is met
-// at most once, and there is a limit to the levels, so the visit ends whatever stands in the node words.
+// Whether a tree stands in some node words from a number down: of so many marks, so many of them strikes, and so many
+// levels. All of it is claimed from above, so that a leaf compares and a fork hands the claims of its children down.
+// Every node is met at most once and no more of them than there is room for, so the visit ends whatever stands there.
 use crate::met::meet;
+use bits::BLOCK_BITS;
 use bits::Leaf;
 use pool::Fork;
+use pool::LEAF_LEAST;
 use pool::Node;
 use pool::node_at;
 ghost use mathlib.Core.Path.{_≡_};
-ghost use Prim.Native.Nat.{_+_, _<_, _≤_, _^_};
-ghost use lib.ListN.{length};
-ghost use Rattle.pool.specs.Node.{node-at};
-ghost use Rattle.model.specs.Limits.{levels as deepest};
+ghost use Prim.Native.Nat.{_-_, _≤_, max};
 ghost use Rattle.model.specs.Says.{Says};
-ghost use Rattle.sound.specs.Answer.{Answered};
-ghost use Rattle.sound.specs.Met.{met-words};
-ghost use Rattle.sound.specs.Part.{Agrees, Filled, Visited, even-balance, filled, higher, least-of, over};
+ghost use Rattle.sound.specs.Part.{Agrees, Filled, Visited, most-levels};
 
-// A leaf of several that is not the rightmost holds at least this many marks, and no leaf holds more than LEAF_MOST.
-const LEAF_LEAST: u64 = 33;
-
+// No leaf holds more marks than this.
 const LEAF_MOST: u64 = 127;
 
-const LEAF_BITS: u64 = 128;
-
 // The greatest balance as stored, one level to the right.
-const MOST_BALANCE: u64 = 3;
+pub const MOST_BALANCE: u64 = 3;
 
-// A subtree that is as it should be: its height, how many strikes it holds and how many nodes it has.
-pub struct Found {
-    pub height: u64,
-    pub ones: u64,
-    pub nodes: u64,
-}
-
-pub enum Seen {
-    Sound(Found),
-    Broken,
-}
-
-// Whether a leaf of so many marks is full enough, not too full, and has no bit past them.
-fn leaf_seen(leaf: Leaf, total: u64, least: u64) -> Seen
-    ensures { λ r. ⌜ Answered (Filled leaf total least) (filled leaf total) r ⌝ }
+// Whether a leaf of so many marks and strikes is full enough, not too full, and has no bit past them; it is one level.
+fn leaf_fits(leaf: Leaf, total: u64, ones: u64, least: u64, levels: u64) -> bool
+    ensures { λ r. ⌜ Says (Filled leaf total ones least levels) r ⌝ }
 {
+    if levels != 1 {
+        return false;
+    }
     if total < least {
-        return Seen::Broken;
+        return false;
     }
     if LEAF_MOST < total {
-        return Seen::Broken;
-    }
-    let ones = leaf.count_before(total, true);
-    if ones == leaf.count_before(LEAF_BITS, true) {
-        let found = Found {
-            height: 0,
-            ones,
-            nodes: 1,
-        };
-        return Seen::Sound(found);
-    }
-    Seen::Broken
-}
-
-// The height of a fork over these heights.
-fn above(left: u64, right: u64) -> u64
-    requires { ⌜ (left ≤ deepest) × (right ≤ deepest) ⌝ }
-    ensures { λ r. ⌜ r ≡ higher left right ⌝ }
-{
-    if left < right {
-        return right + 1;
-    }
-    left + 1
-}
-
-// Whether a stored balance is true of these heights, and none is more than one level higher.
-fn balanced(balance: u64, left: u64, right: u64) -> bool
-    requires { ⌜ (left ≤ deepest) × (right ≤ deepest) ⌝ }
-    ensures { λ r. ⌜ Says (even-balance balance left right) r ⌝ }
-{
-    if balance == 0 {
         return false;
     }
-    if MOST_BALANCE < balance {
+    let cut = leaf.join(total, Leaf { low: 0, high: 0 });
+    if cut.low != leaf.low {
         return false;
     }
-    balance + left == right + 2
+    if cut.high != leaf.high {
+        return false;
+    }
+    leaf.count_before(BLOCK_BITS, true) == ones
 }
 
-// What a fork says, held against its two children.
-fn fork_seen(fork: Fork, left: Found, right: Found) -> Seen
-    requires { ⌜ (left .height ≤ deepest) × (right .height ≤ deepest) × (left .ones + right .ones < 2 ^ 64)
-        × (left .nodes + right .nodes + 1 < 2 ^ 64) ⌝ }
-    ensures { λ r. ⌜ Answered (Agrees fork left right) (over left right) r ⌝ }
+// Whether a fork has levels below it, a balance, and no more on its left than is claimed of it.
+pub fn fork_fits(fork: Fork, total: u64, ones: u64, levels: u64) -> bool
+    ensures { λ r. ⌜ Says (Agrees fork total ones levels) r ⌝ }
 {
-    if fork.left_ones != left.ones {
-        return Seen::Broken;
+    if levels < 2 {
+        return false;
     }
-    if balanced(fork.balance, left.height, right.height) {
-        let found = Found {
-            height: above(left.height, right.height),
-            ones: left.ones + right.ones,
-            nodes: left.nodes + right.nodes + 1,
-        };
-        return Seen::Sound(found);
+    if fork.balance == 0 {
+        return false;
     }
-    Seen::Broken
+    if MOST_BALANCE < fork.balance {
+        return false;
+    }
+    if total < fork.left_total {
+        return false;
+    }
+    fork.left_ones <= ones
 }
 
-// Visits the subtree at n, which is to hold `total` marks, its last leaf at least `least`.
-pub fn visit(nodes: &[u64], met: &mut [u64], n: u64, total: u64, least: u64, levels: u64) -> Seen
-    requires { ⌜ (length (now met) ≡ met-words) × (levels ≤ deepest) ⌝ }
-    ensures { λ r. ⌜ Visited (now (nodes .entry)) (now (met .entry)) (now (met .exit)) n total least levels r ⌝ }
+// The levels of a fork's child: two fewer where the fork leans two away from it, and one fewer elsewhere.
+pub fn below(levels: u64, lean: u64) -> u64
+    requires { ⌜ (2 ≤ levels) × (lean ≤ 2) ⌝ }
+    ensures { λ r. ⌜ r ≡ levels - max 1 lean ⌝ }
 {
-    if !meet(met, n) {
-        return Seen::Broken;
+    if lean == 2 {
+        return levels - 2;
     }
-    match node_at(nodes, n) {
-        Node::Leaf(leaf) => leaf_seen(leaf, total, least),
-        Node::Fork(fork) => {
-            let left_total = fork.left_total;
-            if levels == 0 {
-                return Seen::Broken;
-            }
-            if total < left_total {
-                return Seen::Broken;
-            }
-            let right_total = total - left_total;
-            match visit(nodes, met, fork.left, left_total, LEAF_LEAST, levels - 1) {
-                Seen::Sound(left) => {
-                    match visit(nodes, met, fork.right, right_total, least, levels - 1) {
-                        Seen::Sound(right) => fork_seen(fork, left, right),
-                        Seen::Broken => Seen::Broken,
-                    }
-                }
-                Seen::Broken => Seen::Broken,
-            }
+    levels - 1
+}
+
+// Visits the subtree at `root`, of which all this is claimed, its last leaf of at least `least` marks. It has fewer
+// than `most` nodes; what is left of that is handed back, and 0 where no such tree stands there.
+pub fn visit(
+    nodes: &[u64],
+    met: &mut [u64],
+    root: u64,
+    length: u64,
+    strikes: u64,
+    least: u64,
+    depth: u64,
+    most: u64,
+) -> u64
+    requires { ⌜ depth ≤ most-levels ⌝ }
+    ensures { λ r. ⌜ Visited (now (nodes .entry)) least (now (met .entry)) root length strikes depth most
+        (now (met .exit)) r ⌝ }
+{
+    let mut n = root;
+    let mut total = length;
+    let mut ones = strikes;
+    let mut levels = depth;
+    let mut room = most;
+    while room > 1 {
+        if !meet(met, n) {
+            return 0;
         }
-        Node::Free(_) => Seen::Broken,
-        Node::Broken => Seen::Broken,
+        match node_at(nodes, n) {
+            Node::Fork(fork) => {
+                if !fork_fits(fork, total, ones, levels) {
+                    return 0;
+                }
+                let left = below(levels, fork.balance - 1);
+                let right = below(levels, MOST_BALANCE - fork.balance);
+                room = visit(
+                    nodes,
+                    met,
+                    fork.left,
+                    fork.left_total,
+                    fork.left_ones,
+                    LEAF_LEAST,
+                    left,
+                    room - 1,
+                );
+                n = fork.right;
+                total -= fork.left_total;
+                ones -= fork.left_ones;
+                levels = right;
+            }
+            Node::Leaf(leaf) => {
+                if leaf_fits(leaf, total, ones, least, levels) {
+                    return room - 1;
+                }
+                return 0;
+            }
+            Node::Free(_) => return 0,
+            Node::Broken => return 0,
+        }
     }
-}
-
-// The fewest marks that the last leaf of the whole tree may hold: a lone leaf may be empty.
-pub fn least_of(nodes: &[u64], root: u64) -> u64
-    ensures { λ r. ⌜ r ≡ least-of (node-at (now (nodes .entry)) root) ⌝ }
-{
-    match node_at(nodes, root) {
-        Node::Fork(_) => 1,
-        Node::Leaf(_) => 0,
-        Node::Free(_) => 0,
-        Node::Broken => 0,
-    }
+    0
 }

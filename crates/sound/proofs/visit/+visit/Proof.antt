@@ -1,4 +1,5 @@
--- A visit of the subtree at n: its node is met and read, and then its children are visited, one level less far down. Assumes nothing.
+-- A visit of the subtree at a number: its node is met and read. A fork's left child is visited and the loop goes on with its right child, so that
+-- what is answered from there on is what is answered from the start. Assumes nothing.
 use Prim.Native.Nat.{ℕ, _<_}
 use native.Mathlib.Omega.{arith}
 use mathlib.Core.Path.{_≡_, sym, _∙_}
@@ -6,10 +7,14 @@ use mathlib.Core.List.{[], _∷_}
 use borrow.Author.Needs.{needs}
 use borrow.Author.Tests.{not-true, not-false}
 use denote.Ref.{now}
+use lib.ListN.{length}
+use Rattle.model.specs.Says.{Says}
 use Rattle.pool.specs.Node.{node-at}
 use Rattle.pool.specs.declared.node.Node.the-variants.{Leaf as leaf, Fork as fork}
 use Rattle.sound.specs.Met.{Fresh, Marked}
-use Rattle.sound.proofs.Parts.{children-room, visited-broken, visited-deep, visited-fork, visited-free, visited-leaf, visited-left, visited-met, visited-over, visited-right}
+use Rattle.sound.specs.Part.{Agrees, Filled}
+use Rattle.sound.proofs.Answers.{never}
+use Rattle.sound.proofs.Parts.{Onward, onward-none, onward-more, visited-broken, visited-free, visited-leaf, visited-met, visited-none, visited-unfit, visited-untrue}
 use borrow.Fn.Kinds.{In}
 use borrow.Fn.PlainCycle.{Measures, is, falls, and}
 use Rattle.sound.proofs.visit.visit.Reads as visit
@@ -17,14 +22,15 @@ use Rattle.sound.proofs.visit.visit.Kinds as visit-kinds
 use Rattle.sound.proofs.visit.+visit.Lts-visit as visit-lts
 use Rattle.pool.proofs.node_at.Reads as node-at-reads
 use Rattle.sound.proofs.met.meet.Reads as meet-reads
-use Rattle.sound.proofs.visit.fork_seen.Reads as fork-seen-reads
-use Rattle.sound.proofs.visit.leaf_seen.Reads as leaf-seen-reads
+use Rattle.sound.proofs.visit.below.Reads as below-reads
+use Rattle.sound.proofs.visit.fork_fits.Reads as fork-fits-reads
+use Rattle.sound.proofs.visit.leaf_fits.Reads as leaf-fits-reads
 use Rattle.sound.proofs.visit.+visit.{statement}
 use Rattle.sound.proofs.visit.+visit.Tie.{close}
 
 -- the measure: the levels left
 abbrev μ-visit : Measures 2 visit-kinds.ps ℕ
-μ-visit κs a = a .1 .1 .1 .1 .1 .0
+μ-visit κs a = a .1 .1 .1 .1 .1 .1 .0
 
 -- what a visit is given at the measure t, what a call of it asks below t, and what the callees ask and tell
 abbrev visit-at : ℕ → In 2 visit-kinds.ps
@@ -39,194 +45,218 @@ claims t = (
   meet-reads.Learnt,
   node-at-reads.Asked,
   node-at-reads.Learnt,
-  leaf-seen-reads.Asked,
-  leaf-seen-reads.Learnt,
+  fork-fits-reads.Asked,
+  fork-fits-reads.Learnt,
+  below-reads.Asked,
+  below-reads.Learnt,
   visit-below t,
   visit.Post,
-  fork-seen-reads.Asked,
-  fork-seen-reads.Learnt,
+  leaf-fits-reads.Asked,
+  leaf-fits-reads.Learnt,
 )
 
+-- how far the loop has come
+abbrev Inv-loop : visit-lts.InvT-loop
+Inv-loop nodes met₀ root size strikes least depth most n₀ total₀ ones₀ levels₀ room₀ met n total ones levels room =
+    Onward nodes least met₀ root size strikes depth most met n total ones levels room
+
+abbrev μ-loop : visit-lts.MeasureT-loop
+μ-loop nodes met₀ root size strikes least depth most n₀ total₀ ones₀ levels₀ room₀ met n total ones levels room = levels
+
+-- ---- what is known at some places
+
+-- the pass that a node was met in, and how long the bits of the met nodes are since
+abbrev pass : (t : ℕ) → visit-lts.After-meet (claims t) (visit-at t) visit.Post Inv-loop μ-loop
+    → visit-lts.In-loop (claims t) (visit-at t) visit.Post Inv-loop μ-loop
+pass t c = c .before .before
+
+kept : (t : ℕ) (c : visit-lts.After-meet (claims t) (visit-at t) visit.Post Inv-loop μ-loop)
+    → length (c .meet .last .0) ≡ length (now (pass t c .before .before .before .before .args .met))
+kept t c = c .meet .kept .0 ∙ pass t c .before .loop .inv .size
+
 -- the node was fresh and has been marked
-met-now : (t : ℕ) (c : visit-lts.Else1 (claims t) (visit-at t) visit.Post)
-    → let meets = c .before .before .before in let s = meets .before .before .before .before .args in
-    Fresh (now (s .met)) (s .n ∷ []) × Marked (now (s .met)) (meets .meet .last .0) (s .n ∷ [])
-met-now t c = c .before .before .before .meet .ensures .yes (not-false _ (c .if1 .left))
+abbrev meets : (t : ℕ) → visit-lts.Else1 (claims t) (visit-at t) visit.Post Inv-loop μ-loop
+    → visit-lts.After-meet (claims t) (visit-at t) visit.Post Inv-loop μ-loop
+meets t c = c .before .before .before
+
+met-now : (t : ℕ) (c : visit-lts.Else1 (claims t) (visit-at t) visit.Post Inv-loop μ-loop) → let l = pass t (meets t c) .before .loop in
+    Fresh (l .met) (l .n ∷ []) × Marked (l .met) (meets t c .meet .last .0) (l .n ∷ [])
+met-now t c = meets t c .meet .ensures .yes (not-false _ (c .if1 .left))
 
 -- what was read there
-leaf-there : (t : ℕ) (c : visit-lts.After-leaf (claims t) (visit-at t) visit.Post)
-    → let s = c .before .before .before .before .before .before .before .before .before .before .args in
-    node-at (now (s .nodes)) (s .n) ≡ leaf (c .leaf .given .0 .0)
+leaf-there : (t : ℕ) (c : visit-lts.After-leaf (claims t) (visit-at t) visit.Post Inv-loop μ-loop)
+    → let l = pass t (meets t (c .before .before .before)) .before in
+    node-at (now (l .before .before .before .args .nodes)) (l .loop .n) ≡ leaf (c .leaf .given .0 .0)
 leaf-there t c = sym (c .before .before .node-at .ensures) ∙ c .leaf .given .1
 
-fork-there : (t : ℕ) (c : visit-lts.After-fork (claims t) (visit-at t) visit.Post)
-    → let s = c .before .before .before .before .before .before .before .before .before .before .args in
-    node-at (now (s .nodes)) (s .n) ≡ fork (c .fork .given .0 .0)
+fork-there : (t : ℕ) (c : visit-lts.After-fork (claims t) (visit-at t) visit.Post Inv-loop μ-loop)
+    → let l = pass t (meets t (c .before .before .before)) .before in
+    node-at (now (l .before .before .before .args .nodes)) (l .loop .n) ≡ fork (c .fork .given .0 .0)
 fork-there t c = sym (c .before .before .node-at .ensures) ∙ c .fork .given .1
+
+-- what a fork says that fits
+agrees : (t : ℕ) (c : visit-lts.Else2 (claims t) (visit-at t) visit.Post Inv-loop μ-loop)
+    → let there = c .before .before .before in let l = pass t (meets t (there .before .before .before)) .before .loop in
+    Agrees (there .fork .given .0 .0) (l .total) (l .ones) (l .levels)
+agrees t c = c .before .fork-fits .ensures .yes (not-false _ (c .if2 .left))
+
+-- what it says that a leaf fits
+leaf-says : (t : ℕ) (c : visit-lts.After-leaf-fits (claims t) (visit-at t) visit.Post Inv-loop μ-loop)
+    → let there = c .before .before in let l = pass t (meets t (there .before .before .before)) .before in
+    Says (Filled (there .leaf .given .0 .0) (l .loop .total) (l .loop .ones) (l .before .before .before .args .least) (l .loop .levels))
+    (c .leaf-fits .result)
+leaf-says t c = c .leaf-fits .ensures
 
 -- ---- each need
 
-visit-same-length : (t : ℕ) → visit-lts.Need-same-length (claims t) (visit-at t) visit.Post
-visit-same-length t c = c .before .before .before .meet .kept .0
+loop-holds : (t : ℕ) → visit-lts.Need-loop-holds (claims t) (visit-at t) visit.Post Inv-loop μ-loop
+loop-holds t c = onward-none _ _ _ _ _ _ _ _
 
-visit-returns : (t : ℕ) → visit-lts.Need-returns (claims t) (visit-at t) visit.Post
-visit-returns t c = visited-met (c .before .before .before .meet .ensures) (not-true _ (c .if1 .taken))
+same-length : (t : ℕ) → visit-lts.Need-same-length (claims t) (visit-at t) visit.Post Inv-loop μ-loop
+same-length t c = kept t (c .before .before .before)
 
-visit-same-length-2 : (t : ℕ) → visit-lts.Need-same-length-2 (claims t) (visit-at t) visit.Post
-visit-same-length-2 t c = c .before .before .before .before .before .before .before .before .meet .kept .0
+returns : (t : ℕ) → visit-lts.Need-returns (claims t) (visit-at t) visit.Post Inv-loop μ-loop
+returns t c =
+    let m = c .before .before .before in
+    pass t m .before .loop .inv .on _ _ (visited-met (m .meet .ensures) (not-true _ (c .if1 .taken)))
 
-visit-returns-2 : (t : ℕ) → visit-lts.Need-returns-2 (claims t) (visit-at t) visit.Post
-visit-returns-2 t c =
-    let there = c .before .before in
-    visited-deep (there .fork .given .0 .0) (fork-there t there) (c .if2 .taken)
+same-length-2 : (t : ℕ) → visit-lts.Need-same-length-2 (claims t) (visit-at t) visit.Post Inv-loop μ-loop
+same-length-2 t c = kept t (meets t (c .before .before .before .before .before .before))
 
-visit-same-length-3 : (t : ℕ) → visit-lts.Need-same-length-3 (claims t) (visit-at t) visit.Post
-visit-same-length-3 t c = c .before .before .before .before .before .before .before .before .before .meet .kept .0
-
-visit-returns-3 : (t : ℕ) → visit-lts.Need-returns-3 (claims t) (visit-at t) visit.Post
-visit-returns-3 t c =
+returns-2 : (t : ℕ) → visit-lts.Need-returns-2 (claims t) (visit-at t) visit.Post Inv-loop μ-loop
+returns-2 t c =
     let there = c .before .before .before in
-    visited-over (there .fork .given .0 .0) (fork-there t there) (c .if3 .taken)
+    pass t (meets t (there .before .before .before)) .before .loop .inv .on _ _
+    (visited-untrue (there .fork .given .0 .0) (fork-there t there)
+    (λ a. never (c .before .fork-fits .ensures .no a) (not-true _ (c .if2 .taken))))
 
-visit-visit-requires : (t : ℕ) → visit-lts.Need-visit-requires (claims t) (visit-at t) visit.Post
-visit-visit-requires t c κs =
-    let level = c .before .before in
-    let meets = level .before .before .before .before .before .before .before .before in
-    let start = meets .before .before .before .before in
-    (omega (arith, start .pre, level .if2), (meets .meet .kept .0 ∙ start .pre .1 .0, omega (arith, start .pre)))
+sub-below : (t : ℕ) → visit-lts.Need-sub-below (claims t) (visit-at t) visit.Post Inv-loop μ-loop
+sub-below t c = let a = agrees t (c .before) in omega (arith, a .leans, a .even)
 
-visit-visit-requires-2 : (t : ℕ) → visit-lts.Need-visit-requires-2 (claims t) (visit-at t) visit.Post
-visit-visit-requires-2 t c κs =
-    let first = c .before .before .before .before .before .before in
-    let level = first .before .before .before in
-    let meets = level .before .before .before .before .before .before .before .before in
-    let start = meets .before .before .before .before in
-    (omega (arith, start .pre, level .if2), (first .visit .kept .1 .0 ∙ meets .meet .kept .0 ∙ start .pre .1 .0, omega (arith, start .pre)))
+below-requires : (t : ℕ) → visit-lts.Need-below-requires (claims t) (visit-at t) visit.Post Inv-loop μ-loop
+below-requires t c κs = let a = agrees t (c .before) in (a .high, omega (arith, a .leans, a .even))
 
-visit-fork-seen-requires : (t : ℕ) → visit-lts.Need-fork-seen-requires (claims t) (visit-at t) visit.Post
-visit-fork-seen-requires t c κs =
-    let right = c .before in
-    let second = right .before .before .before .before in
-    let left = second .before .before .before in
-    let first = left .before .before .before .before in
-    let room = first .before .before in
-    let there = room .before .before .before in
-    let here = there .before .before .before in
-    let m = met-now t here in
-    let start = here .before .before .before .before .before .before .before in
-    children-room (there .fork .given .0 .0) (fork-there t there) (m .0) (m .1) (first .visit .ensures) (second .visit2 .ensures)
-    (left .left .given .0 .0) (right .right .given .0 .0) (left .left .given .1) (right .right .given .1)
-    (start .pre .1 .0) (start .pre .1 .1) (room .if3 .left) (start .fits .total .fits)
+sub-below-2 : (t : ℕ) → visit-lts.Need-sub-below-2 (claims t) (visit-at t) visit.Post Inv-loop μ-loop
+sub-below-2 t c = let a = agrees t (c .before .before .before) in omega (arith, a .leans, a .even)
 
-visit-same-length-4 : (t : ℕ) → visit-lts.Need-same-length-4 (claims t) (visit-at t) visit.Post
-visit-same-length-4 t c = c .before .before .before .before .before .before .before .before .meet .kept .0
+below-requires-2 : (t : ℕ) → visit-lts.Need-below-requires-2 (claims t) (visit-at t) visit.Post Inv-loop μ-loop
+below-requires-2 t c κs = let a = agrees t (c .before .before .before) in (a .high, omega (arith, a .leans, a .even))
 
-visit-returns-4 : (t : ℕ) → visit-lts.Need-returns-4 (claims t) (visit-at t) visit.Post
-visit-returns-4 t c =
-    let there = c .before .before in
-    let m = met-now t (there .before .before .before) in
-    visited-leaf (there .leaf .given .0 .0) (leaf-there t there) (m .0) (m .1) (c .leaf-seen .ensures)
+visit-requires : (t : ℕ) → visit-lts.Need-visit-requires (claims t) (visit-at t) visit.Post Inv-loop μ-loop
+visit-requires t c κs =
+    let first = c .before .before .before in
+    let told = first .before .before in
+    let l = pass t (meets t (told .before .before .before .before .before .before)) .before in
+    let left = first .below .ensures in
+    let start = l .before .before .before in
+    let falls = l .loop .inv .falls in
+    let high = agrees t told .high in
+    (omega (arith, start .pre), omega (arith, start .pre))
 
-visit-same-length-5 : (t : ℕ) → visit-lts.Need-same-length-5 (claims t) (visit-at t) visit.Post
-visit-same-length-5 t c =
+sub-total : (t : ℕ) → visit-lts.Need-sub-total (claims t) (visit-at t) visit.Post Inv-loop μ-loop
+sub-total t c = let a = agrees t (c .before .before .before .before .before .before .before .before .before) in omega (arith, a .marks)
+
+sub-ones : (t : ℕ) → visit-lts.Need-sub-ones (claims t) (visit-at t) visit.Post Inv-loop μ-loop
+sub-ones t c = let a = agrees t (c .before .before .before .before .before .before .before .before .before .before) in omega (arith, a .ones)
+
+loop-less : (t : ℕ) → visit-lts.Need-loop-less (claims t) (visit-at t) visit.Post Inv-loop μ-loop
+loop-less t c =
     let second = c .before .before .before .before .before .before in
-    let first = second .before .before .before .before .before .before .before in
-    second .visit2 .kept .1 .0 ∙ first .visit .kept .1 .0
-    ∙ first .before .before .before .before .before .before .before .before .before .before .before .meet .kept .0
+    omega (arith, second .below2 .ensures, agrees t (second .before .before .before .before) .high)
 
-visit-returns-5 : (t : ℕ) → visit-lts.Need-returns-5 (claims t) (visit-at t) visit.Post
-visit-returns-5 t c =
-    let right = c .before .before in
-    let second = right .before .before .before .before in
-    let left = second .before .before .before in
-    let first = left .before .before .before .before in
-    let room = first .before .before in
-    let there = room .before .before .before in
-    let here = there .before .before .before in
-    let m = met-now t here in
-    visited-fork (there .fork .given .0 .0) (fork-there t there) (m .0) (m .1) (first .visit .ensures) (second .visit2 .ensures)
-    (left .left .given .0 .0) (right .right .given .0 .0) (left .left .given .1) (right .right .given .1)
-    (c .fork-seen .ensures) (omega (arith, room .before .if2)) (room .if3 .left)
+loop-again : (t : ℕ) → visit-lts.Need-loop-again (claims t) (visit-at t) visit.Post Inv-loop μ-loop
+loop-again t c =
+    let child = c .before .before .before .before in
+    let second = child .before .before in
+    let first = second .before .before in
+    let told = first .before .before in
+    let there = told .before .before .before in
+    let m = met-now t (there .before .before .before) in
+    let p = pass t (meets t (there .before .before .before)) in
+    onward-more (p .before .loop .inv) (omega (arith, p .loop-test)) (m .0) (m .1) (there .fork .given .0 .0) (fork-there t there) (agrees t told)
+    (omega (arith, first .below .ensures)) (omega (arith, second .below2 .ensures)) (child .visit .kept .1 .0) (child .visit .ensures)
 
-visit-same-length-6 : (t : ℕ) → visit-lts.Need-same-length-6 (claims t) (visit-at t) visit.Post
-visit-same-length-6 t c =
-    let second = c .before .before .before .before in
-    let first = second .before .before .before .before .before .before .before in
-    second .visit2 .kept .1 .0 ∙ first .visit .kept .1 .0
-    ∙ first .before .before .before .before .before .before .before .before .before .before .before .meet .kept .0
+same-length-3 : (t : ℕ) → visit-lts.Need-same-length-3 (claims t) (visit-at t) visit.Post Inv-loop μ-loop
+same-length-3 t c = kept t (meets t (c .before .before .before .before .before .before))
 
-visit-returns-6 : (t : ℕ) → visit-lts.Need-returns-6 (claims t) (visit-at t) visit.Post
-visit-returns-6 t c =
-    let second = c .before .before .before .before in
-    let first = second .before .before .before .before .before .before .before in
-    let room = first .before .before in
-    let there = room .before .before .before in
-    let here = there .before .before .before in
-    let m = met-now t here in
-    visited-right (there .fork .given .0 .0) (fork-there t there) (m .0) (m .1) (first .visit .ensures) (second .visit2 .ensures)
-    (c .enum-told .given .1)
+returns-3 : (t : ℕ) → visit-lts.Need-returns-3 (claims t) (visit-at t) visit.Post Inv-loop μ-loop
+returns-3 t c =
+    let there = c .before .before .before in
+    let m = met-now t (there .before .before .before) in
+    let p = pass t (meets t (there .before .before .before)) in
+    p .before .loop .inv .on _ _
+    (visited-leaf (omega (arith, p .loop-test)) (m .0) (m .1) (there .leaf .given .0 .0) (leaf-there t there)
+    (leaf-says t (c .before) .yes (c .if3 .taken)))
 
-visit-same-length-7 : (t : ℕ) → visit-lts.Need-same-length-7 (claims t) (visit-at t) visit.Post
-visit-same-length-7 t c =
-    let first = c .before .before .before .before in
-    first .visit .kept .1 .0 ∙ first .before .before .before .before .before .before .before .before .before .before .before .meet .kept .0
+same-length-4 : (t : ℕ) → visit-lts.Need-same-length-4 (claims t) (visit-at t) visit.Post Inv-loop μ-loop
+same-length-4 t c = kept t (meets t (c .before .before .before .before .before .before))
 
-visit-returns-7 : (t : ℕ) → visit-lts.Need-returns-7 (claims t) (visit-at t) visit.Post
-visit-returns-7 t c =
-    let first = c .before .before .before .before in
-    let room = first .before .before in
-    let there = room .before .before .before in
-    let here = there .before .before .before in
-    let m = met-now t here in
-    visited-left (there .fork .given .0 .0) (fork-there t there) (m .0) (m .1) (first .visit .ensures) (c .enum-told2 .given .1)
+returns-4 : (t : ℕ) → visit-lts.Need-returns-4 (claims t) (visit-at t) visit.Post Inv-loop μ-loop
+returns-4 t c =
+    let there = c .before .before .before in
+    pass t (meets t (there .before .before .before)) .before .loop .inv .on _ _
+    (visited-unfit (there .leaf .given .0 .0) (leaf-there t there) (λ f. never (leaf-says t (c .before) .no f) (c .if3 .left)))
 
-visit-same-length-8 : (t : ℕ) → visit-lts.Need-same-length-8 (claims t) (visit-at t) visit.Post
-visit-same-length-8 t c = c .before .before .before .before .before .before .meet .kept .0
+same-length-5 : (t : ℕ) → visit-lts.Need-same-length-5 (claims t) (visit-at t) visit.Post Inv-loop μ-loop
+same-length-5 t c = kept t (meets t (c .before .before .before))
 
-visit-returns-8 : (t : ℕ) → visit-lts.Need-returns-8 (claims t) (visit-at t) visit.Post
-visit-returns-8 t c = visited-free (c .enum-told3 .given .0 .0) (sym (c .before .before .node-at .ensures) ∙ c .enum-told3 .given .1)
+returns-5 : (t : ℕ) → visit-lts.Need-returns-5 (claims t) (visit-at t) visit.Post Inv-loop μ-loop
+returns-5 t c =
+    let read = c .before .before in
+    pass t (meets t (read .before)) .before .loop .inv .on _ _
+    (visited-free (c .enum-told .given .0 .0) (sym (read .node-at .ensures) ∙ c .enum-told .given .1))
 
-visit-same-length-9 : (t : ℕ) → visit-lts.Need-same-length-9 (claims t) (visit-at t) visit.Post
-visit-same-length-9 t c = c .before .before .before .before .before .before .meet .kept .0
+same-length-6 : (t : ℕ) → visit-lts.Need-same-length-6 (claims t) (visit-at t) visit.Post Inv-loop μ-loop
+same-length-6 t c = kept t (meets t (c .before .before .before))
 
-visit-returns-9 : (t : ℕ) → visit-lts.Need-returns-9 (claims t) (visit-at t) visit.Post
-visit-returns-9 t c = visited-broken (sym (c .before .before .node-at .ensures) ∙ c .enum-told4 .given .1)
+returns-6 : (t : ℕ) → visit-lts.Need-returns-6 (claims t) (visit-at t) visit.Post Inv-loop μ-loop
+returns-6 t c =
+    let read = c .before .before in
+    pass t (meets t (read .before)) .before .loop .inv .on _ _ (visited-broken (sym (read .node-at .ensures) ∙ c .enum-told2 .given .1))
+
+same-length-7 : (t : ℕ) → visit-lts.Need-same-length-7 (claims t) (visit-at t) visit.Post Inv-loop μ-loop
+same-length-7 t c = c .before .loop .inv .size
+
+returns-7 : (t : ℕ) → visit-lts.Need-returns-7 (claims t) (visit-at t) visit.Post Inv-loop μ-loop
+returns-7 t c = c .before .loop .inv .on _ _ (visited-none (omega (arith, c .loop-test)))
 
 pub +visit-spec : {M : Type 1} → statement M
 +visit-spec = close μ-visit λ t. visit-lts.spec (claims t)
     (visit-at t)
     visit.Post
+    Inv-loop
+    μ-loop
+    (loop-holds t)
     (λ c κs. search needs)
-    (visit-same-length t)
-    (visit-returns t)
+    (same-length t)
+    (returns t)
     (λ c κs. search needs)
     (λ c. search needs)
     (λ c κs. search needs)
+    (same-length-2 t)
+    (returns-2 t)
+    (sub-below t)
+    (below-requires t)
+    (sub-below-2 t)
+    (below-requires-2 t)
+    (λ c. omega arith)
+    (visit-requires t)
+    (sub-total t)
+    (sub-ones t)
+    (loop-less t)
+    (loop-again t)
     (λ c. search needs)
-    (visit-same-length-2 t)
-    (visit-returns-2 t)
-    (visit-same-length-3 t)
-    (visit-returns-3 t)
+    (λ c κs. search needs)
+    (λ c. omega arith)
+    (same-length-3 t)
+    (returns-3 t)
+    (same-length-4 t)
+    (returns-4 t)
     (λ c. search needs)
-    (visit-visit-requires t)
+    (same-length-5 t)
+    (returns-5 t)
     (λ c. search needs)
-    (λ c. search needs)
-    (visit-visit-requires-2 t)
-    (λ c. search needs)
-    (visit-fork-seen-requires t)
-    (λ c. search needs)
-    (λ c. search needs)
-    (λ c. search needs)
-    (λ c. search needs)
-    (visit-same-length-4 t)
-    (visit-returns-4 t)
-    (visit-same-length-5 t)
-    (visit-returns-5 t)
-    (visit-same-length-6 t)
-    (visit-returns-6 t)
-    (visit-same-length-7 t)
-    (visit-returns-7 t)
-    (visit-same-length-8 t)
-    (visit-returns-8 t)
-    (visit-same-length-9 t)
-    (visit-returns-9 t)
+    (same-length-6 t)
+    (returns-6 t)
+    (same-length-7 t)
+    (returns-7 t)
