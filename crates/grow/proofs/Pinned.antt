@@ -8,7 +8,7 @@ use mathlib.Core.Bool.{Bool}
 use denote.Ref.{now}
 use borrow.Fn.Kinds.{Dens}
 use Rattle.model.proofs.Rearranged.{rearranged-member}
-use Rattle.pool.proofs.Once.{Whole}
+use Rattle.pool.proofs.Once.{Unbroken}
 use Rattle.pool.proofs.OnceChained.{edited-chained-once}
 use Rattle.grow.specs.Inserting.{ToAsk, ToInsertInto, left-over}
 use Rattle.grow.proofs.Altering.{insert-all}
@@ -21,7 +21,7 @@ pub room-pinned : (κs : _) (a : Dens {n = 1} κs room-kinds.ps) (r r′ : _) (w
     → ToAsk (now (a .0)) (a .1 .0) (a .1 .1 .0) (a .1 .1 .1 .1 .0) → room.Post κs a r w → room.Post κs a r′ w′ → r ≡ r′
 room-pinned κs a r r′ w w′ b one other = one b ∙ sym (other b)
 
-pub insert-pinned : (κs : _) (a : Dens {n = 1} κs insert-kinds.ps) (r r′ : _) (w w′ : _) (n : ℕ) → Whole n (now (a .0))
+pub insert-pinned : (κs : _) (a : Dens {n = 1} κs insert-kinds.ps) (r r′ : _) (w w′ : _) (n : ℕ) → Unbroken n (now (a .0))
     → ToInsertInto (now (a .0)) (a .1 .0) (a .1 .1 .1 .0) (a .1 .1 .0) (a .1 .1 .1 .1 .0) → insert.Post κs a r w → insert.Post κs a r′ w′
     → (r ≡ r′) × (now (w .0) ≡ now (w′ .0))
 insert-pinned κs a r r′ w w′ n whole b one other =

@@ -18,7 +18,7 @@ use Rattle.pool.specs.declared.node.Node.the-variants.{Leaf as leaf, For
 use Rattle.pool.proofs.Cells.{same-nodes}
 
 -- words of so many nodes, each laid out as one
-pub record Whole (n : ℕ) (w : List ℕ) : Type 0 where
+pub record Unbroken (n : ℕ) (w : List ℕ) : Type 0 where
   pub words : length w ≡ node-words * n
   pub nodes : (k : ℕ) → k < n → node-at w k ≡ broken → ⊥
 
@@ -48,7 +48,7 @@ its-node (Tree.fork n l r) k m =
     (List·Memᴰ·cases-cons m)
 
 -- two edits of whole words to one tree, at its own numbers, leave the same words
-pub edited-once : {w u v ns : List ℕ} {t : Tree} (n : ℕ) → Whole n w → ns ≡ numbers t → Edited w u ns t → Edited w v ns t → u ≡ v
+pub edited-once : {w u v ns : List ℕ} {t : Tree} (n : ℕ) → Unbroken n w → ns ≡ numbers t → Edited w u ns t → Edited w v ns t → u ≡ v
 edited-once {w} {u} {v} {ns} {t} n whole own d e =
     same-nodes n u v (d .size ∙ whole .words) (e .size ∙ whole .words)
     (λ k h.

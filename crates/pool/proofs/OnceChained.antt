@@ -11,7 +11,7 @@ use Rattle.pool.specs.Layout.{Chained, Edited, Holds, first-of}
 use Rattle.pool.specs.declared.node.Node.{Node}
 use Rattle.pool.specs.declared.node.Node.the-variants.{Free as free, Broken as broken}
 use Rattle.pool.proofs.Cells.{same-nodes}
-use Rattle.pool.proofs.Once.{Whole, by-member, its-node}
+use Rattle.pool.proofs.Once.{Unbroken, by-member, its-node}
 
 -- at each of its numbers a chain has one node, whatever words hold it
 chain-node : (end : ℕ) (ns : List ℕ) (k : ℕ) → List·Memᴰ k ns → (x : Node) × (x ≡ broken → ⊥) × ((w : List ℕ) → Chained w end ns → node-at w k ≡ x)
@@ -32,7 +32,7 @@ both-node end t ns k m =
     (List·Memᴰ·append-cases (numbers t) m)
 
 -- two edits of whole words to one tree and one chain, at their own numbers, leave the same words
-pub edited-chained-once : {w u v ms : List ℕ} {t : Tree} (n end : ℕ) (ns : List ℕ) → Whole n w
+pub edited-chained-once : {w u v ms : List ℕ} {t : Tree} (n end : ℕ) (ns : List ℕ) → Unbroken n w
     → ((k : ℕ) → List·Memᴰ k ms → List·Memᴰ k (numbers t ++ ns))
     → Edited w u ms t → Chained u end ns → Edited w v ms t → Chained v end ns → u ≡ v
 edited-chained-once {w} {u} {v} {ms} {t} n end ns whole own d du e ev =

@@ -8,14 +8,14 @@ use denote.Ref.{now}
 use borrow.Fn.Kinds.{Dens}
 use Rattle.model.specs.Tree.{size}
 use Rattle.model.proofs.Rearranged.{rearranged-member}
-use Rattle.pool.proofs.Once.{Whole}
+use Rattle.pool.proofs.Once.{Unbroken}
 use Rattle.pool.proofs.OnceChained.{edited-chained-once}
 use Rattle.shrink.specs.Removing.{ToRemoveFrom, with-freed}
 use Rattle.shrink.proofs.Trimming.{remove-alters}
 use Rattle.shrink.proofs.removing.remove.Reads as remove
 use Rattle.shrink.proofs.removing.remove.Kinds as remove-kinds
 
-pub remove-pinned : (κs : _) (a : Dens {n = 1} κs remove-kinds.ps) (r r′ : _) (w w′ : _) (n : ℕ) → Whole n (now (a .0))
+pub remove-pinned : (κs : _) (a : Dens {n = 1} κs remove-kinds.ps) (r r′ : _) (w w′ : _) (n : ℕ) → Unbroken n (now (a .0))
     → ToRemoveFrom (now (a .0)) (a .1 .0) (a .1 .1 .1 .0) (a .1 .1 .0) (a .1 .1 .1 .1 .0) → remove.Post κs a r w → remove.Post κs a r′ w′
     → (r ≡ r′) × (now (w .0) ≡ now (w′ .0))
 remove-pinned κs a r r′ w w′ n whole b one other =

@@ -12,7 +12,7 @@ use Rattle.model.proofs.Rearranged.{rearranged-member}
 use Rattle.pool.specs.Layout.{Edited}
 use Rattle.pool.specs.Node.{node-at}
 use Rattle.pool.proofs.Cells.{same-nodes}
-use Rattle.pool.proofs.Once.{Whole, by-member, its-node}
+use Rattle.pool.proofs.Once.{Unbroken, by-member, its-node}
 use Rattle.turn.proofs.Differences.{both, one}
 use Rattle.turn.proofs.balance.stored.Reads as stored
 use Rattle.turn.proofs.changed.child_changed.Reads as child-changed
@@ -33,7 +33,7 @@ module _ {w u v : List ℕ} (n : ℕ) (l r : Tree) (p : Edited w u (numbers (for
       s .2 u (p .holds) ∙ sym (s .2 v (q .holds)))
       (λ out. p .else k out ∙ sym (q .else k out))
 
-  pub one-words : (N : ℕ) → Whole N w → u ≡ v
+  pub one-words : (N : ℕ) → Unbroken N w → u ≡ v
   one-words N whole =
       same-nodes N u v (p .size ∙ whole .words) (q .size ∙ whole .words) (λ k h. one-node k)
       (λ k h b.
@@ -50,7 +50,7 @@ module _ (κs : _) (a : _) (r r′ : _) (w w′ : _) (pre : rebalance.Pre κs a)
       let t = q (pre .0) (pre .1 .0) (pre .1 .1) in
       (one r r′ (s .change) (t .change), one-node (a .1 .0) (pre .0) (pre .1 .0) (s .edited) (t .edited))
 
-  pub rebalance-words-pinned : (N : ℕ) → Whole N (now (a .0)) → now (w .0) ≡ now (w′ .0)
+  pub rebalance-words-pinned : (N : ℕ) → Unbroken N (now (a .0)) → now (w .0) ≡ now (w′ .0)
   rebalance-words-pinned =
       one-words (a .1 .0) (pre .0) (pre .1 .0) (p (pre .0) (pre .1 .0) (pre .1 .1) .edited) (q (pre .0) (pre .1 .0) (pre .1 .1) .edited)
 
@@ -62,7 +62,7 @@ module _ (κs : _) (a : _) (r r′ : _) (w w′ : _) (pre : child-changed.Pre κ
       let t = q (pre .0) (pre .1) (pre .2) (pre .3) (pre .4) in
       (one r r′ (s .change) (t .change), one-node (a .1 .0) (pre .0) (pre .1) (s .edited) (t .edited))
 
-  pub child-changed-words-pinned : (N : ℕ) → Whole N (now (a .0)) → now (w .0) ≡ now (w′ .0)
+  pub child-changed-words-pinned : (N : ℕ) → Unbroken N (now (a .0)) → now (w .0) ≡ now (w′ .0)
   child-changed-words-pinned =
       let s = p (pre .0) (pre .1) (pre .2) (pre .3) (pre .4) in
       let t = q (pre .0) (pre .1) (pre .2) (pre .3) (pre .4) in

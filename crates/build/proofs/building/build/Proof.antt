@@ -22,8 +22,10 @@ leaves-many k xs = simp (length-reverse, built-leaves-length)
 
 rounds-requires : tie.Need-rounds-requires
 rounds-requires c κs =
-    let a = c .before .before .before .before .before .before .before .before .args in
-    let n = c .before .before .before .before .before .leaf-count in
+    let leaf-count-place = c .before .before .before .before .before in
+    let start = leaf-count-place .before .before .before in
+    let a = start .args in
+    let n = leaf-count-place .leaf-count in
     let p = c .before .before .before .put-leaves in
     let some = leaf-count-some (a .length) in
     let e = n .ensures in
@@ -42,22 +44,30 @@ rounds-requires c κs =
 
 sub-chain-from : tie.Need-sub-chain-from
 sub-chain-from c =
+    let rounds = c .before .before .before in
+    let put-leaves = rounds .before .before .before .before in
+    let leaf-count-place = put-leaves .before .before in
+    let start = leaf-count-place .before .before .before in
     omega (
       arith,
       leaf-count-some
-          (c .before .before .before .before .before .before .before .before .before .before .before .before .args .length),
-      c .before .before .before .before .before .before .before .before .before .leaf-count .ensures,
+          (start .args .length),
+      leaf-count-place .leaf-count .ensures,
     )
 
 returns : tie.Need-returns
 returns c p f =
-    let s = c .before .before .before .before .before .before .before .before .before .before .before .before .before .before .before in
+    let nodes2 = c .before .before .before .before .before in
+    let rounds-place = nodes2 .before in
+    let put-leaves-place = rounds-place .before .before .before .before in
+    let leaf-count-place = put-leaves-place .before .before in
+    let s = leaf-count-place .before .before .before in
     let a = s .args in
     let room = s .pre in
-    let k : ℕ = c .before .before .before .before .before .before .before .before .before .before .before .before .leaf-count .result in
-    let e = c .before .before .before .before .before .before .before .before .before .before .before .before .leaf-count .ensures in
-    let leaves = c .before .before .before .before .before .before .before .before .before .before .put-leaves in
-    let root = c .before .before .before .before .before .before .rounds in
+    let k : ℕ = leaf-count-place .leaf-count .result in
+    let e = leaf-count-place .leaf-count .ensures in
+    let leaves = put-leaves-place .put-leaves in
+    let root = rounds-place .rounds in
     let chain = c .before .before .chain-from in
     let xs : List Bool = take (a .length) (marks-of (now (a .words))) in
     let all : length xs ≡ a .length =

@@ -8,7 +8,8 @@ use Rattle.build.proofs.building.joined.Tie as tie
 
 returns : tie.Need-returns
 returns c =
-    let s = c .before .before .before .before .before .before .before in
+    let struct-known3 = c .before .before .before .before in
+    let s = struct-known3 .before .before .before in
     let a = s .before .before .before .before .before .args in
     let item : ℕ → Item = λ h. record { node = a .n; total = a .left .total + a .right .total; ones = a .left .ones + a .right .ones; height = h } in
     record { item = ap item (c .above .ensures); stored = s .set-fork .ensures }

@@ -26,14 +26,19 @@ loop-holds c =
     (omega arith, refl, refl, none-begun (now (a .nodes)) (take (a .length) (marks-of (now (a .words)))) (a .leaves) _)
 
 put-leaf-requires : tie.Need-put-leaf-requires Inv-loop μ-loop
-put-leaf-requires c κs = let a = c .before .before .before .before .before .before .args in
+put-leaf-requires c κs =
+    let nothing = c .before .before .before in
+    let start = nothing .before .before .before in
+    let a = start .args in
     omega (arith, leaf-begins (c .before .before .loop .i) (a .length) (omega arith))
 
 loop-again : tie.Need-loop-again Inv-loop μ-loop
 unfolding leaf-marks
 loop-again c =
-    let s = c .before .before .before .before .before .loop in
-    let a = c .before .before .before .before .before .before .before .before .before .args in
+    let loop-place = c .before .before .before .before .before in
+    let start = loop-place .before .before .before .before in
+    let s = loop-place .loop in
+    let a = start .args in
     let p = c .before .before .put-leaf in
     let size : count-of (p .last .0) ≡ count-of (s .nodes) = p .kept .0 in (
       omega arith,

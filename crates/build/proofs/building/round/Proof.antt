@@ -27,14 +27,16 @@ loop-holds c = (omega arith, refl, c .before .pre .1 .wait .room, λ ts e b. no-
 
 joined-requires : tie.Need-joined-requires Inv-loop μ-loop
 joined-requires c κs =
-    let s = c .before .before .before .before .loop in
-    let ready = c .before .before .before .before .before .before .pre .1 in
-    let p = s .inv .3 (ready .these) (ready .many) (ready .wait) in
+    let at-loop = c .before .before .before .before in
+    let ready = at-loop .before .before .pre .1 in
+    let p = at-loop .loop .inv .3 (ready .these) (ready .many) (ready .wait) in
     pair-small (p .0) (p .1) (p .2) (omega (arith, ready .many))
 
 loop-again : tie.Need-loop-again Inv-loop μ-loop
 loop-again c =
-    let s = c .before .before .before .before .before .before .before .loop in
+    let right = c .before .before .before .before .before in
+    let loop-place = right .before .before in
+    let s = loop-place .loop in
     let j = c .before .before .joined in
     let size : length (j .last .0) ≡ length (s .nodes) = j .kept .0 in
     let room = s .inv .2 in (
@@ -48,15 +50,18 @@ loop-again c =
 
 joined-requires-2 : tie.Need-joined-requires-2 Inv-loop μ-loop
 joined-requires-2 c κs =
-    let s = c .before .before .before .before .loop in
-    let ready = c .before .before .before .before .before .before .pre .1 in
-    let p = s .inv .3 (ready .these) (ready .many) (ready .wait) in
+    let at-loop = c .before .before .before .before in
+    let ready = at-loop .before .before .pre .1 in
+    let p = at-loop .loop .inv .3 (ready .these) (ready .many) (ready .wait) in
     pair-small (p .0) (p .1) (p .2) (omega (arith, ready .many))
 
 returns : tie.Need-returns Inv-loop μ-loop
 returns c =
-    let s = c .before .before .before .before .before .before .before .before .loop in
-    let a = c .before .before .before .before .before .before .before .before .before .before .args in
+    let left2 = c .before .before .before .before .before in
+    let loop-place = left2 .before .before .before in
+    let start = loop-place .before .before in
+    let s = loop-place .loop in
+    let a = start .args in
     let j = c .before .before .before .joined2 in
     let size : length (j .last .0) ≡ length (s .nodes) = j .kept .0 in
     let room = s .inv .2 in
@@ -73,21 +78,28 @@ returns c =
 
 joined-requires-3 : tie.Need-joined-requires-3 Inv-loop μ-loop
 joined-requires-3 c κs =
-    let s = c .before .before .before .before .before .before .before .before .before .before .loop in
-    let ready = c .before .before .before .before .before .before .before .before .before .before .before .before .pre .1 in
-    let j = c .before .before .before .before .before .joined2 in
+    let joined2-place = c .before .before .before .before .before in
+    let loop-place = joined2-place .before .before .before .before .before in
+    let start = loop-place .before .before in
+    let s = loop-place .loop in
+    let ready = start .pre .1 in
+    let j = joined2-place .joined2 in
     let p = s .inv .3 (ready .these) (ready .many) (ready .wait) in
     odd-small (j .result) (p .0) (p .1) (p .2) (omega (arith, ready .many)) (j .ensures .item)
 
 returns-2 : tie.Need-returns-2 Inv-loop μ-loop
 returns-2 c =
-    let s = c .before .before .before .before .before .before .before .before .before .before .before .before .before .loop in
-    let t = c .before .before .before .before .before .before .before .before .before .before .before .before .before .before .before in
+    let else1 = c .before .before .before .before .before in
+    let joined2-place = else1 .before .before .before in
+    let loop-place = joined2-place .before .before .before .before in
+    let loop-place-place = loop-place .before in
+    let t = loop-place-place .before .before in
+    let s = loop-place-place .loop in
     let a = t .args in
     let fits = t .pre .1 .enough in
     let some = s .inv .0 in
-    let stopped = c .before .before .before .before .before .before .before .before .before .before .before .before .loop-test .left in
-    let j = c .before .before .before .before .before .before .before .before .joined2 in
+    let stopped = loop-place .loop-test .left in
+    let j = joined2-place .joined2 in
     let k = c .before .before .joined3 in
     let size : length (j .last .0) ≡ length (s .nodes) = j .kept .0 in
     let again : length (k .last .0) ≡ length (j .last .0) = k .kept .0 in

@@ -54,7 +54,8 @@ add-count c = let room = next-room (next (c .before)) in omega arith
 
 same-length-2 : tie.Need-same-length-2 Inv-loop μ-loop
 same-length-2 c =
-    let at-loop = c .before .before .before .before .before .before .before in
+    let hex-word = c .before .before .before .before in
+    let at-loop = hex-word .before .before .before in
     length-set (at-loop .loop .words) (at-loop .loop .count) _ ∙ at-loop .loop .inv .as-long
 
 returns-2 : tie.Need-returns-2 Inv-loop μ-loop

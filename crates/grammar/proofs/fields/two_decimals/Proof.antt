@@ -32,8 +32,9 @@ returns-3 : tie.Need-returns-3
 unfolding bind
 returns-3 c =
     let first = c .before .before .before .before .before in
+    let field-end = first .before .before .before .before .before in
     λ ask.
-    two-more (cut (c .before .before .before .before .before .before .before .before .before .before)) ask (omega arith)
+    two-more (cut field-end) ask (omega arith)
     ∙ rw (
       value-is (first .before .before .decimal .ensures) (first .first .given .1),
       nothing-is (c .before .before .decimal2 .ensures) (c .enum-told2 .given .1),
@@ -42,10 +43,12 @@ returns-3 c =
 returns-4 : tie.Need-returns-4
 unfolding bind
 returns-4 c =
-    let first = c .before .before .before .before .before .before in
+    let decimal2-place = c .before .before .before in
+    let first = decimal2-place .before .before .before in
+    let field-end = first .before .before .before .before .before in
     let second = c .before in
     λ ask.
-    two-more (cut (c .before .before .before .before .before .before .before .before .before .before .before)) ask (omega arith)
+    two-more (cut field-end) ask (omega arith)
     ∙ rw (
       value-is (first .before .before .decimal .ensures) (first .first .given .1),
       value-is (second .before .before .decimal2 .ensures) (second .second .given .1),

@@ -24,28 +24,34 @@ returns c = load-none (cut (c .before .before .before .before)) (nothing-is (c .
 
 returns-2 : tie.Need-returns-2
 returns-2 c =
+    let decimal-place = c .before .before .before .before in
+    let field-end = decimal-place .before .before in
     let len = c .before .before in (
       omega arith,
-      load-alone (cut (c .before .before .before .before .before .before))
+      load-alone (cut field-end)
           (value-is (len .before .before .decimal .ensures) (len .length .given .1)) (omega arith),
     )
 
 returns-3 : tie.Need-returns-3
 unfolding bind
 returns-3 c =
-    let len = c .before .before .before .before .before .before .before .before .before .before in
-    let read = rw (c .before .count .given .1) at (c .before .before .before .before .before .hex-words .ensures) in (
+    let hex-words-place = c .before .before .before .before .before in
+    let len = hex-words-place .before .before .before .before .before in
+    let field-end = len .before .before .before .before in
+    let read = rw (c .before .count .given .1) at (hex-words-place .hex-words .ensures) in (
       read .0,
-      load-more (cut (c .before .before .before .before .before .before .before .before .before .before .before .before .before .before))
+      load-more (cut field-end)
           (value-is (len .before .before .decimal .ensures) (len .length .given .1)) (omega arith) ∙ rw (read .1),
     )
 
 returns-4 : tie.Need-returns-4
 unfolding bind
 returns-4 c =
-    let len = c .before .before .before .before .before .before .before .before .before in
-    let read = rw (c .enum-told2 .given .1) at (c .before .before .before .before .hex-words .ensures) in
-    load-more (cut (c .before .before .before .before .before .before .before .before .before .before .before .before .before))
+    let hex-words-place = c .before .before .before .before in
+    let len = hex-words-place .before .before .before .before .before in
+    let field-end = len .before .before .before .before in
+    let read = rw (c .enum-told2 .given .1) at (hex-words-place .hex-words .ensures) in
+    load-more (cut field-end)
     (value-is (len .before .before .decimal .ensures) (len .length .given .1)) (omega arith) ∙ rw read
 
 pub load-line-spec : {M : Type 1} → statement M

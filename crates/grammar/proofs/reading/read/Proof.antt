@@ -21,10 +21,14 @@ returns c = rw (wanted-alone (cut (c .before .before .before .before)) (omega ar
 
 returns-2 : tie.Need-returns-2
 unfolding Reads
-returns-2 c = rw (
-  wanted-more (cut (c .before .before .before .before .before .before .before .before)) (omega arith),
-  ← c .before .before .before .before .before .before .name-of .ensures,
-) (c .before .before .with-fields .ensures)
+returns-2 c =
+    let else1 = c .before .before .before .before .before in
+    let name-of-place = else1 .before in
+    let field-end = name-of-place .before .before in
+    rw (
+      wanted-more (cut field-end) (omega arith),
+      ← name-of-place .name-of .ensures,
+    ) (c .before .before .with-fields .ensures)
 
 pub read-spec : {M : Type 1} → statement M
 read-spec =

@@ -44,7 +44,8 @@ judged-requires c κs = counted (c .before .before .before)
 
 serve-all-requires : tie.Need-serve-all-requires
 serve-all-requires c κs =
-    let e = c .before .before .before .before .before .before in
+    let judged = c .before .before .before .before in
+    let e = judged .before .before in
     let p = standing (c .before .before) in
     (p .0, p .1, omega (arith, whole (e .before)), omega (arith, room e))
 

@@ -20,29 +20,40 @@ told c p s = known s (c .trailer-of .result) (c .trailer-of .ensures)
 
 serve-requires : tie.Need-serve-requires
 serve-requires c κs =
-    let start = c .before .before .before .before .before .before .before in
+    let pool = c .before .before .before .before .before in
+    let start = pool .before .before in
     let s = start .pre in
     let k = told (c .before .before .before) (s .0) (s .1) in
     (start .args .n, s .0, to-serve (s .1) _ _ k (λ yes. omega (arith, leb-true)))
 
 returns : tie.Need-returns
-returns c = λ p s.
-    let k = told (c .before .before .before .before .before .before .before .before .before) p s in
-    let x = c .before .before .before .before .before .serve .ensures _ p (to-serve s _ _ k (λ yes. omega (arith, leb-true))) in
+returns c =
+    let serve-place = c .before .before .before .before .before in
+    let trailer-of = serve-place .before .before .before .before in
+    λ p s.
+    let k = told trailer-of p s in
+    let x = serve-place .serve .ensures _ p (to-serve s _ _ k (λ yes. omega (arith, leb-true))) in
     served-still s (ruled s _ k x refl) _ k (c .if1 .taken)
 
 set-trailer-requires : tie.Need-set-trailer-requires
 set-trailer-requires c κs =
-    let s = c .before .before .before .before .before .before .before .before .before .before .before .before .before .before .before .pre .1 in
-    let k = told (c .before .before .before .before .before .before .before .before .before .before .before) _ s in
-    let x = c .before .before .before .before .before .before .before .serve .ensures _ _ (to-serve s _ _ k (λ yes. omega (arith, leb-true))) in
+    let else1 = c .before .before in
+    let serve-place = else1 .before .before .before .before .before in
+    let trailer-of = serve-place .before .before .before .before in
+    let start = trailer-of .before .before .before .before in
+    let s = start .pre .1 in
+    let k = told trailer-of _ s in
+    let x = serve-place .serve .ensures _ _ (to-serve s _ _ k (λ yes. omega (arith, leb-true))) in
     simp (length-take, length-drop, length-append)
     (omega (arith, x .edited .size, s .counted .words, nodes-length _ _ (s .counted)))
 
 returns-2 : tie.Need-returns-2
-returns-2 c = λ p s.
-    let k = told (c .before .before .before .before .before .before .before .before .before .before .before .before .before .before) p s in
-    let done = c .before .before .before .before .before .before .before .before .before .before in
+returns-2 c =
+    let else1 = c .before .before .before .before .before in
+    let done = else1 .before .before .before .before .before in
+    let trailer-of = done .before .before .before .before in
+    λ p s.
+    let k = told trailer-of p s in
     let x = done .serve .ensures _ p (to-serve s _ _ k (λ yes. omega (arith, leb-true))) in
     served-moved s (ruled s _ k x refl) _ _ k (c .before .before .set-trailer .ensures)
 

@@ -26,7 +26,8 @@ slice-aggregate-build c =
 
 slice-aggregate-build-2 : tie.Need-slice-aggregate-build-2
 slice-aggregate-build-2 c =
-    let s = c .before .before .before .before .before .before .before in
+    let extent = c .before .before .before in
+    let s = extent .before .before .before .before in
     sym (length-take-le (s .args .load .count) (now (s .args .words)) (s .pre .1))
 
 returns : tie.Need-returns

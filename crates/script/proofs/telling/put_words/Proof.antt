@@ -33,7 +33,9 @@ put-byte-requires c κs =
 
 shared-slice-read-put-hex : tie.Need-shared-slice-read-put-hex Inv-loop μ-loop
 shared-slice-read-put-hex c =
-    let s = c .before .before .before .before .before .before .before .before .before .before in
+    let put-byte = c .before .before .before .before in
+    let loop = put-byte .before .before .before in
+    let s = loop .before .before .before in
     omega (arith, s .pre .0)
 
 -- a space has been put

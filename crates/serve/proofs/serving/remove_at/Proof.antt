@@ -16,9 +16,12 @@ remove-requires : tie.Need-remove-requires
 remove-requires c κs = let s = c .before .before .before .before .before .pre in to-remove (s .2) _ (c .before .before .if1 .left)
 
 returns-2 : tie.Need-returns-2
-returns-2 c = λ end p s.
-    let within = c .before .before .before .before .before .before .before .before .if1 .left in
-    removed s _ _ within (c .before .before .before .before .before .remove .ensures (to-remove s _ within))
+returns-2 c =
+    let remove-place = c .before .before .before .before .before in
+    let else1 = remove-place .before .before .before in
+    λ end p s.
+    let within = else1 .if1 .left in
+    removed s _ _ within (remove-place .remove .ensures (to-remove s _ within))
 
 pub remove-at-spec : {M : Type 1} → statement M
 remove-at-spec =

@@ -66,11 +66,15 @@ loop-again c =
 
 add-leaf : tie.Need-add-t16 Inv-loop μ-loop
 add-leaf c =
-    let l = c .before .before .before .before .before .before in
+    let loop-place = c .before .before .before .before .before in
+    let l = loop-place .before in
     omega (arith, rank-most _ _ _ (c .count-before .ensures), l .loop .inv .fits, l .before .before .fits .length .fits)
 
 sub-levels : tie.Need-sub-t18 Inv-loop μ-loop
-sub-levels c = let l = c .before .before .before .before .before .before in omega (arith, l .loop .inv .few)
+sub-levels c =
+    let loop-place = c .before .before .before .before .before in
+    let l = loop-place .before in
+    omega (arith, l .loop .inv .few)
 
 returns-2 : tie.Need-returns-2 Inv-loop μ-loop
 returns-2 c =

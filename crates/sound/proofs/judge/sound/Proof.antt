@@ -17,7 +17,10 @@ add-room : tie.Need-add-room
 add-room c = let count = c .before .before .before in omega (arith, count .node-count .ensures, count .before .before .before .pre .1)
 
 visit-requires : tie.Need-visit-requires
-visit-requires c κs = omega (arith, c .before .before .before .before .before .before .right-edge .ensures .low)
+visit-requires c κs =
+    let node-count = c .before .before .before .before .before in
+    let right-edge-place = node-count .before in
+    omega (arith, right-edge-place .right-edge .ensures .low)
 
 -- what is known after the visit
 seen : (c : tie.After-visit) → let s = c .before .before .before .before .before .before .before .before .before .args in

@@ -25,7 +25,8 @@ returns-4 c =
 
 returns-5 : tie.Need-returns-5
 returns-5 c =
-    let join = c .before .before .before .before .before .before in
+    let else4 = c .before .before .before in
+    let join = else4 .before .before .before in
     let s = join .before .before .before .before .args in
     says-no (λ f. c .if5 .taken (ap (λ (x : Leaf). x .high) (none-cut (s .leaf) (s .total) _ (join .join .ensures) (f .ends))))
 

@@ -71,12 +71,19 @@ part-set-trailer-start : tie.Need-part-set-trailer-start
 part-set-trailer-start c = sub-set-trailer c
 
 set-trailer-requires : tie.Need-set-trailer-requires
-set-trailer-requires c κs = let f = fits (c .before .before .before .before .before .before) in
-    after-trailer f _ _ (c .before .before .before .before .build .ensures)
+set-trailer-requires c κs =
+    let build-place = c .before .before .before .before in
+    let else3 = build-place .before .before in
+    let f = fits else3 in
+    after-trailer f _ _ (build-place .build .ensures)
 
 returns-4 : tie.Need-returns-4
-returns-4 c = let f = fits (c .before .before .before .before .before .before .before .before .before) in
-    after-stands f _ _ (c .before .before .before .before .before .before .before .build .ensures) _ (c .before .before .set-trailer .ensures)
+returns-4 c =
+    let chain = c .before .before .before .before in
+    let build-place = chain .before .before .before in
+    let else3 = build-place .before .before in
+    let f = fits else3 in
+    after-stands f _ _ (build-place .build .ensures) _ (c .before .before .set-trailer .ensures)
 
 pub build-spec : {M : Type 1} → statement M
 build-spec =

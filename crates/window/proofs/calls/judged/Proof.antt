@@ -27,36 +27,47 @@ returns c = λ x.
     c .if1 .taken (rw (told (c .before .before)) (stands-nodes (s .args .pool .now) (s .args .n) (s .pre) (q .0) (q .1)))
 
 returns-2 : tie.Need-returns-2
-returns-2 c = λ x.
-    let s = c .before .before .before .before .before .before .before in
+returns-2 c =
+    let trailer-of = c .before .before .before .before in
+    let s = trailer-of .before .before .before in
+    λ x.
     let q = well-at (s .args .pool .now) (s .args .n) (s .pre) x in
-    c .if2 .taken (rw (told (c .before .before .before .before)) (stands-last (s .args .pool .now) (s .args .n) (s .pre) (q .0) (q .1)))
+    c .if2 .taken (rw (told trailer-of) (stands-last (s .args .pool .now) (s .args .n) (s .pre) (q .0) (q .1)))
 
 slice-aggregate-sound : tie.Need-slice-aggregate-sound
-slice-aggregate-sound c = let s = c .before .before .before .before .before .before .before .before .before in
+slice-aggregate-sound c =
+    let else1 = c .before .before .before .before in
+    let s = else1 .before .before .before .before .before in
     sym (nodes-length (s .args .pool .now) (s .args .n) (s .pre))
 
 sound-requires : tie.Need-sound-requires
 sound-requires c κs =
-    let s = c .before .before .before .before .before .before .before .before .before in
+    let else1 = c .before .before .before .before in
+    let s = else1 .before .before .before .before .before in
     rw (nodes-are (s .args .pool .now) (s .args .n) (s .pre), nodes-length (s .args .pool .now) (s .args .n) (s .pre)) (omega (arith, s .pre .most))
 
 returns-3 : tie.Need-returns-3
 returns-3 c =
-    let s = c .before .before .before .before .before .before .before .before .before .before .before in
-    let t = told (c .before .before .before .before .before .before .before .before) in
+    let else2 = c .before .before .before .before in
+    let else1 = else2 .before .before in
+    let trailer-of = else1 .before .before in
+    let s = trailer-of .before .before .before in
+    let t = told trailer-of in
     let p = (rw t at (c .before .sound .ensures)) .yes (c .if3 .taken) in (
       p .0,
-      correct-stands (s .args .pool .now) (s .args .n) (s .pre) (p .0) (rw t at (c .before .before .before .before .before .before .if1 .left))
-          (rw t at (c .before .before .before .before .if2 .left)) (p .1),
+      correct-stands (s .args .pool .now) (s .args .n) (s .pre) (p .0) (rw t at (else1 .if1 .left))
+          (rw t at (else2 .if2 .left)) (p .1),
       t,
     )
 
 returns-4 : tie.Need-returns-4
-returns-4 c = λ x.
-    let s = c .before .before .before .before .before .before .before .before .before .before .before in
+returns-4 c =
+    let else2 = c .before .before .before .before in
+    let trailer-of = else2 .before .before .before .before in
+    let s = trailer-of .before .before .before in
+    λ x.
     let q = well-at (s .args .pool .now) (s .args .n) (s .pre) x in
-    let yes = (rw (told (c .before .before .before .before .before .before .before .before)) at (c .before .sound .ensures)) .no (q .0)
+    let yes = (rw (told trailer-of) at (c .before .sound .ensures)) .no (q .0)
     (stands-correct (s .args .pool .now) (s .args .n) (s .pre) (q .0) (q .1)) in
     let no = c .if3 .left in
     let never : _≡_ {A = ℕ} 0 1 = cc in

@@ -19,18 +19,20 @@ use Rattle.window.proofs.calls.values.Statement.{statement}
 use Rattle.window.proofs.calls.values.Tie as tie
 
 -- the pool that stands, and what its trailer says of it
-pub record Told (ws : List ℕ) (n : ℕ) (t : Trailer) : Type 0 where
+pub record TrailerRead (ws : List ℕ) (n : ℕ) (t : Trailer) : Type 0 where
   pub pool : Pool
   pub stands : Stands ws n pool
   pub total : t .length ≡ size (pool .tree)
   pub rooted : Rooted (take (n * 6) ws) (t .root) 12 (pool .tree)
   pub few : size (pool .tree) ≤ 127 * 2 ^ 12
 
-told : (c : tie.After-known-told) → Told (c .before .before .before .before .before .before .before .before .args .pool .now)
+trailer-read : (c : tie.After-known-told) → TrailerRead (c .before .before .before .before .before .before .before .before .args .pool .now)
     (c .before .before .before .before .before .nodes-of .result) (c .before .trailer .given .0 .0)
-told c =
-    let ws = c .before .before .before .before .before .before .before .before .args .pool .now in
-    let n = c .before .before .before .before .before .nodes-of .result in
+trailer-read c =
+    let nodes-of-place = c .before .before .before .before .before in
+    let start = nodes-of-place .before .before .before in
+    let ws = start .args .pool .now in
+    let n = nodes-of-place .nodes-of .result in
     let j = rw (c .before .trailer .given .1) at (c .before .before .before .judged .ensures) in
     let deep = stands-rooted ws n (j .0) (j .1) in
     record {
@@ -48,30 +50,33 @@ judged-requires : tie.Need-judged-requires
 judged-requires c κs = c .before .nodes-of .ensures .yes (omega (arith, c .if1 .left))
 
 words-for-requires : tie.Need-words-for-requires
-words-for-requires c κs = let s = told c in omega (arith, s .total, s .few)
+words-for-requires c κs = let s = trailer-read c in omega (arith, s .total, s .few)
 
 returns-2 : tie.Need-returns-2
 returns-2 c =
-    let s = told (c .before .before) in
+    let s = trailer-read (c .before .before) in
     short-valued _ _ (s .pool) (s .stands) _ (rw (← s .total, ← c .before .words-for .ensures) (c .if2 .taken))
 
 mul-end : tie.Need-mul-end
-mul-end c = let s = told (c .before .before) in omega (arith, s .stands .counted .most)
+mul-end c = let s = trailer-read (c .before .before) in omega (arith, s .stands .counted .most)
 
 slice-aggregate-values : tie.Need-slice-aggregate-values
-slice-aggregate-values c = let s = told (c .before .before .before) in sym (nodes-length _ _ (s .stands .counted))
+slice-aggregate-values c = let s = trailer-read (c .before .before .before) in sym (nodes-length _ _ (s .stands .counted))
 
 values-requires : tie.Need-values-requires
 values-requires c κs =
-    let s = told (c .before .before .before .before) in
+    let s = trailer-read (c .before .before .before .before) in
     (s .pool .tree, s .rooted, sym (s .total), rw (← c .before .before .before .words-for .ensures) (c .before .before .if2 .left))
 
 returns-3 : tie.Need-returns-3
 returns-3 c =
-    let s = told (c .before .before .before .before .before .before .before) in
-    let e = c .before .before .before .before .before .before .words-for .ensures in
+    let else2 = c .before .before .before .before .before in
+    let words-for-place = else2 .before in
+    let known-told = words-for-place .before in
+    let s = trailer-read known-told in
+    let e = words-for-place .words-for .ensures in
     let t = ap words-for (s .total) in
-    written-valued _ _ (s .pool) (s .stands) _ _ _ (e ∙ t) (rw (← t, ← e) (c .before .before .before .before .before .if2 .left))
+    written-valued _ _ (s .pool) (s .stands) _ _ _ (e ∙ t) (rw (← t, ← e) (else2 .if2 .left))
     (c .before .before .values .ensures (s .pool .tree) (s .rooted) (sym (s .total)) ∙ rw e)
 
 returns-4 : tie.Need-returns-4
