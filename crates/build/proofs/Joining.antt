@@ -5,18 +5,19 @@ use mathlib.Core.Path.{_≡_, refl, sym, ap, ap₂, _∙_}
 use mathlib.Core.Bool.{Bool, true}
 use mathlib.Core.List.{List, [], _∷_, List·Memᴰ·cases-cons, List·Memᴰ·append-cases, List·Memᴰ·not-nil}
 use mathlib.Core.Logic.{⊎-elim}
-use lib.ListN.{length, set}
-use lib.Seq.{getD-set-same, getD-set-other}
+use Rattle.model.specs.Limits.{levels}
+use Rattle.model.specs.Marks.{count}
 use Rattle.model.specs.Tree.{Tree, leaf, fork, top, marks, size, height, numbers}
-use Rattle.model.proofs.Counting.{count-append}
+use Rattle.model.proofs.Leaves.{sized-weaken}
 use Rattle.bits.specs.Leaf.{leaf-of}
 use Rattle.pool.specs.Layout.{fork-of}
 use Rattle.pool.specs.Node.{Put}
 use Rattle.pool.specs.declared.node.Fork.{Fork}
 use Rattle.pool.specs.declared.node.Node.the-variants as Node
 use Rattle.pool.proofs.Standing.{holds-same}
-use Rattle.build.specs.Waiting.{Kept, Row, Summed, fork-over, item-over, leaf-item, nothing}
+use Rattle.build.specs.Waiting.{Along, Filled, Kept, Standing, Waits, fork-over, item-over}
 use Rattle.build.specs.declared.building.Item.{Item}
+use Rattle.build.specs.declared.building.Row.{Row}
 
 -- ---- what is kept
 
@@ -27,57 +28,73 @@ pub kept-kept : (w w′ w″ : List ℕ) (n m : ℕ) → n ≤ m → Kept w w′
 kept-kept w w′ w″ n m h p q k l = q k (omega arith) ∙ p k l
 
 module _ (w w′ : List ℕ) (n m : ℕ) (kept : Kept w w′ n) (h : n ≤ m) where
-  pub summed-kept : {t : Tree} {x : Item} → Summed w n t x → Summed w′ m t x
-  summed-kept {t} s =
+  pub waits-kept : {at : ℕ} {t : Tree} {x : Item} → Waits w n at t x → Waits w′ m at t x
+  waits-kept {t = t} s =
       record {
         node = s .node;
-        total = s .total;
-        ones = s .ones;
         levels = s .levels;
+        filled = s .filled;
         holds = holds-same w w′ t (λ k q. kept k (s .below k q)) (s .holds);
         below = λ k q. let l = s .below k q in omega arith;
       }
 
-  pub row-kept : (xs : List Item) (at : ℕ) (ts : List Tree) → Row w n xs at ts → Row w′ m xs at ts
-  row-kept xs at [] r = tt
-  row-kept xs at (t ∷ ts) r = (summed-kept (r .0), row-kept xs (suc at) ts (r .1))
+  pub along-kept : (r : Row) (at : ℕ) (ts : List Tree) → Along w n r at ts → Along w′ m r at ts
+  along-kept r at [] p = tt
+  along-kept r at (t ∷ []) p = waits-kept p
+  along-kept r at (t ∷ u ∷ more) p = (waits-kept (p .0), along-kept r (suc at) (u ∷ more) (p .1))
 
 -- ---- a leaf and a fork
 
-pub leaf-summed : {w w′ : List ℕ} {n : ℕ} (xs : List Bool) → Put w w′ n (Node.Leaf (leaf-of xs)) → Summed w′ (suc n) (leaf n xs) (leaf-item n xs)
-unfolding top size marks height numbers
-leaf-summed {n} xs p =
+pub leaf-waits : {w w′ : List ℕ} {n : ℕ} (at total : ℕ) (xs : List Bool) → Put w w′ n (Node.Leaf (leaf-of xs)) → (0 < at → Filled total (leaf n xs))
+    → Waits w′ (suc n) at (leaf n xs) (record { node = n; total = total; height = 0 })
+unfolding top height numbers
+leaf-waits {n = n} at total xs p filled =
     record {
       node = refl;
-      total = refl;
-      ones = refl;
       levels = refl;
+      filled = filled;
       holds = p .here;
       below = λ k q. ⊎-elim (λ e. omega arith) (λ none. absurd (List·Memᴰ·not-nil none)) (List·Memᴰ·cases-cons q);
     }
 
-module _ {w w′ : List ℕ} (n : ℕ) (l r : Tree) (a b : Item) (p : Put w w′ n (Node.Fork (fork-over a b))) (left : Summed w n l a)
-    (right : Summed w n r b) where
-  pub fork-summed : Summed w′ (suc n) (fork n l r) (item-over n a b)
-  unfolding top size marks height numbers fork-of
-  fork-summed =
-      let over : fork-over a b ≡ fork-of l r =
-      λ i. record {
-        left = left .node i;
-        right = right .node i;
-        «left_total» = left .total i;
-        «left_ones» = left .ones i;
-        balance = (right .levels i + 2) - left .levels i;
+-- a tree that is not the rightmost stands as its item says
+pub waits-standing : {w : List ℕ} {n at : ℕ} {t : Tree} {x : Item} → Waits w n at t x → 0 < at → x .height ≤ levels → Standing w x t
+waits-standing {t = t} s some low =
+    record {
+      rooted = record {
+        at = sym (s .node);
+        holds = s .holds;
+        deep = omega (arith, s .levels);
+        sized = sized-weaken 0 33 t (omega arith) (s .filled some .sized);
+      };
+      total = sym (s .filled some .marks);
+    }
+
+module _ {w w′ : List ℕ} (n i : ℕ) (l r : Tree) (a b : Item) (p : Put w w′ n (Node.Fork (fork-over a b (count true (marks l))))) {at to : ℕ}
+    (left : Waits w n at l a) (right : Waits w n to r b) (some : 0 < at) (more : 0 < i → 0 < to) where
+  pub fork-waits : Waits w′ (suc n) i (fork n l r) (item-over n a b)
+  unfolding top size height numbers fork-of
+  fork-waits =
+      let over : fork-over a b (count true (marks l)) ≡ fork-of l r =
+      λ j. record {
+        left = left .node j;
+        right = right .node j;
+        «left_total» = left .filled some .marks j;
+        «left_ones» = count true (marks l);
+        balance = (right .levels j + 2) - left .levels j;
       } in
       record {
         node = refl;
-        total = ap₂ (λ (x y : ℕ). x + y) (left .total) (right .total);
-        ones = ap₂ (λ (x y : ℕ). x + y) (left .ones) (right .ones) ∙ sym (count-append true (marks l) (marks r));
         levels = ap₂ (λ (x y : ℕ). suc (max x y)) (left .levels) (right .levels);
+        filled = λ h.
+            record {
+              marks = ap₂ (λ (x y : ℕ). x + y) (left .filled some .marks) (right .filled (more h) .marks);
+              sized = (left .filled some .sized, right .filled (more h) .sized);
+            };
         holds = (
           p .here ∙ ap Node.Fork over,
-          summed-kept w w′ n n (put-kept p) (omega arith) left .holds,
-          summed-kept w w′ n n (put-kept p) (omega arith) right .holds,
+          waits-kept w w′ n n (put-kept p) (omega arith) left .holds,
+          waits-kept w w′ n n (put-kept p) (omega arith) right .holds,
         );
         below = λ k q.
             ⊎-elim
@@ -87,15 +104,3 @@ module _ {w w′ : List ℕ} (n : ℕ) (l r : Tree) (a b : Item) (p : Put w w′
             (List·Memᴰ·append-cases (numbers l) deeper))
             (List·Memᴰ·cases-cons q);
       }
-
--- ---- the array
-
-module _ (w : List ℕ) (n : ℕ) (xs : List Item) (k : ℕ) (x : Item) where
-  -- a store before a row changes nothing in it
-  pub row-past : (at : ℕ) (ts : List Tree) → k < at → Row w n xs at ts → Row w n (set xs k x) at ts
-  row-past at [] h r = tt
-  row-past at (t ∷ ts) h r = (rw (getD-set-other xs k at x nothing (λ e. omega arith)) (r .0), row-past (suc at) ts (omega arith) (r .1))
-
-  -- a store just before a row lengthens it
-  pub row-front : (t : Tree) (ts : List Tree) → k < length xs → Summed w n t x → Row w n xs (suc k) ts → Row w n (set xs k x) k (t ∷ ts)
-  row-front t ts h s r = (rw (getD-set-same xs k x nothing h) s, row-past (suc k) ts (omega arith) r)

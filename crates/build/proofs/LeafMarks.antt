@@ -2,17 +2,16 @@
 use Prim.Native.Nat.{ℕ, zero, suc, _+_, _-_, _*_, _≤_, _<_, min}
 use native.Mathlib.Omega.{arith}
 use mathlib.Core.Path.{_≡_, refl, ap, ap₂, _∙_}
-use mathlib.Core.Bool.{Bool, true, false}
+use mathlib.Core.Bool.{Bool, false}
 use mathlib.Core.List.{List, [], _∷_, _++_}
 use lib.ListN.{length, take, drop, getD, length-append, length-take, length-drop, drop-of-length-le, replicate-append-replicate}
 use lib.Seq.{take-all, take-take, take-add, take-append-le, length-take-le, drop-append-add, drop-at, drop-cons, drop-nil}
-use Rattle.model.specs.Marks.{count, rank}
 use Rattle.model.specs.Word.{bits, marks-of, number}
 use Rattle.model.proofs.Cases.{by-ltb}
 use Rattle.model.proofs.Words.{bits-length, bits-zero}
 use Rattle.bits.specs.Leaf.{leaf-of, bits-of, packed}
 use Rattle.bits.specs.declared.leaf.Leaf.{Leaf}
-use Rattle.bits.proofs.Held.{leaf-padded, rank-held}
+use Rattle.bits.proofs.Held.{leaf-padded}
 use Rattle.build.specs.Waiting.{leaf-marks}
 
 -- ---- the marks of words
@@ -82,8 +81,3 @@ first-of-word w n h =
 pub leaf-of-none : _≡_ {A = Leaf} (record { low = 0; high = 0 }) (leaf-of [])
 unfolding leaf-of packed number
 leaf-of-none = refl
-
--- the strikes of a leaf's own marks
-pub count-held : (xs : List Bool) (n : ℕ) → length xs ≡ n → n ≤ 128 → rank true n (bits-of (leaf-of xs)) ≡ count true xs
-unfolding rank
-count-held xs n e h = rank-held xs true n (omega arith) (omega arith) ∙ ap (count true) (take-all n xs (omega arith))

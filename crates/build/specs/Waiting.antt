@@ -1,25 +1,24 @@
--- What the builder goes through: the trees that wait to be joined, what it remembers of each, and what each of its
--- steps asks and leaves.
+-- What the builder goes through: the trees that wait to be joined, what is known of each by its place, and what each
+-- of its steps asks and leaves.
 use Prim.Native.Nat.{ℕ, zero, suc, _+_, _-_, _*_, _/_, _^_, _≤_, _<_, max}
 use mathlib.Core.Path.{_≡_}
 use mathlib.Core.Bool.{Bool, true}
 use mathlib.Core.List.{List, [], _∷_, List·Memᴰ, reverse}
-use lib.ListN.{length, take, drop, getD}
+use lib.ListN.{length, take, drop}
 use Rattle.model.specs.Build.{built-leaves, leaf-built, leaf-count, round, rounds}
-use Rattle.model.specs.Limits.{most-leaves, most-nodes}
+use Rattle.model.specs.Edit.{leaf-least}
+use Rattle.model.specs.Limits.{levels, most-leaves, most-nodes}
 use Rattle.model.specs.Marks.{count}
 use Rattle.model.specs.Pool.{numbers-from}
+use Rattle.model.specs.Sound.{Sized}
 use Rattle.model.specs.Tree.{Tree, top, marks, size, height, numbers}
 use Rattle.model.specs.Word.{marks-of}
 use Rattle.pool.specs.Node.{fork-cell, node-at, nodes-in, put}
-use Rattle.pool.specs.Layout.{Chained, Holds}
+use Rattle.pool.specs.Layout.{Chained, Holds, Rooted}
 use Rattle.pool.specs.declared.chain.Chain.{Chain}
 use Rattle.pool.specs.declared.node.Fork.{Fork}
 use Rattle.build.specs.declared.building.Item.{Item}
-
--- how many trees the builder can remember: as many as the leaves of the largest pool
-abbrev pub places : ℕ
-places = most-leaves most-nodes
+use Rattle.build.specs.declared.building.Row.{Row}
 
 -- ---- one leaf
 
@@ -27,41 +26,54 @@ places = most-leaves most-nodes
 unfoldable pub leaf-marks : List ℕ → ℕ → ℕ → List Bool
 leaf-marks words length i = take leaf-built (drop (i * leaf-built) (take length (marks-of words)))
 
--- ---- one tree and what is remembered of it
+-- ---- what is known of a tree by its place in a row
 
--- where nothing is remembered
-abbrev pub nothing : Item
-nothing = record { node = 0; total = 0; ones = 0; height = 0 }
+-- its number: the leaves' fall from the rightmost on, the forks' rise
+abbrev pub number-at : ℕ → ℕ → ℕ → ℕ
+number-at zero first at = first - at
+number-at (suc h) first at = first + at
 
--- a leaf with these marks at n
-abbrev pub leaf-item : ℕ → List Bool → Item
-leaf-item n xs = record { node = n; total = length xs; ones = count true xs; height = 0 }
+-- all but the last are alike
+abbrev pub item-at : Row → ℕ → Item
+item-at r at = record { node = number-at (r .height) (r .first) at; total = r .total; height = r .height }
 
--- the fork over two remembered trees, and what is remembered of it at n
-abbrev pub fork-over : Item → Item → Fork
-fork-over l r = record {
-  left =
-      l .node;
-  right = r .node;
-  «left_total» = l .total;
-  «left_ones» = l .ones;
-  balance = (r .height + 2) - l .height;
-}
+-- the leaves' row
+abbrev pub leaf-row : ℕ → Row
+leaf-row leaves =
+    record {
+      first = leaves - 1;
+      total = leaf-built;
+      height = 0;
+      count = leaves;
+      last = record { node = 0; total = leaf-built; height = 0 };
+    }
+
+-- the row after a round, the forks' numbers from `next` on, with its last tree
+abbrev pub row-above : Row → ℕ → Item → Row
+row-above r next last =
+    record { first = next; total = r .total * 2; height = suc (r .height); count = r .count / 2; last = last }
+
+-- ---- two trees, joined
+
+-- the fork over two of them, so many of the left one's marks being strikes, and what is known of it at n
+abbrev pub fork-over : Item → Item → ℕ → Fork
+fork-over l r ones =
+    record {
+      left = l .node;
+      right = r .node;
+      «left_total» = l .total;
+      «left_ones» = ones;
+      balance = (r .height + 2) - l .height;
+    }
 
 abbrev pub item-over : ℕ → Item → Item → Item
 item-over n l r =
-    record {
-      node = n;
-      total = l .total + r .total;
-      ones = l .ones + r .ones;
-      height = suc
-          (max (l .height) (r .height));
-    }
+    record { node = n; total = l .total + r .total; height = suc (max (l .height) (r .height)) }
 
--- the words with that fork put at n, and what is then remembered
-pub record Forked (w w′ : List ℕ) (n : ℕ) (l r x : Item) : Type 0 where
-  pub item : x ≡ item-over n l r
-  pub stored : w′ ≡ put w n (fork-cell (fork-over l r))
+-- a tree that stands at an item's number and holds as many marks as it says
+pub record Standing (w : List ℕ) (x : Item) (t : Tree) : Type 0 where
+  pub rooted : Rooted w (x .node) levels t
+  pub total : size t ≡ x .total
 
 -- small enough to be joined: the balance is no less than -2, and all sums fit
 pub record Small (l r : Item) : Type 0 where
@@ -69,43 +81,62 @@ pub record Small (l r : Item) : Type 0 where
   pub left : l .height < 2 ^ 32
   pub right : r .height < 2 ^ 32
   pub totals : l .total + r .total < 2 ^ 32
-  pub strikes : l .ones + r .ones < 2 ^ 32
 
--- a tree that stands in these words, its numbers below n, and what is remembered of it
-pub record Summed (w : List ℕ) (n : ℕ) (t : Tree) (x : Item) : Type 0 where
-  pub node : x .node ≡ top t
-  pub total : x .total ≡ size t
-  pub ones : x .ones ≡ count true (marks t)
-  pub levels : x .height ≡ height t
-  pub holds : Holds w t
-  pub below : (k : ℕ) → List·Memᴰ k (numbers t) → k < n
+-- the left one's strikes can be counted, and both can be joined
+pub record Joinable (w : List ℕ) (l r : Item) : Type 0 where
+  pub tree : Tree
+  pub stands : Standing w l tree
+  pub small : Small l r
+
+-- the words with their fork put at n, and what is then known of it
+pub record Forked (w w′ : List ℕ) (n : ℕ) (l r x : Item) : Type 0 where
+  pub item : x ≡ item-over n l r
+  pub stored : (t : Tree) → Standing w l t → w′ ≡ put w n (fork-cell (fork-over l r (count true (marks t))))
 
 -- ---- the trees that wait
 
--- trees that are remembered one after the other, from a place on
-abbrev pub Row : List ℕ → ℕ → List Item → ℕ → List Tree → Type 0
-Row w n xs at [] = Unit {0}
-Row w n xs at (t ∷ ts) = Summed w n t (getD xs at nothing) × Row w n xs (suc at) ts
+-- a tree of so many marks whose leaves are neither too full nor too empty, the last one included
+pub record Filled (total : ℕ) (t : Tree) : Type 0 where
+  pub marks : total ≡ size t
+  pub sized : Sized leaf-least t
 
--- trees that are all so many levels high, but the last may be one level higher
-abbrev pub Level : ℕ → List Tree → Type 0
-Level h [] = Unit {0}
-Level h (t ∷ []) = (h ≤ height t) × (height t ≤ suc h)
-Level h (t ∷ u ∷ more) = (height t ≡ h) × Level h (u ∷ more)
+-- a tree at a place of the row: it stands in these words, its numbers below n, and it is as its item says; the marks
+-- of the rightmost one, at 0, are not told
+pub record Waits (w : List ℕ) (n at : ℕ) (t : Tree) (x : Item) : Type 0 where
+  pub node : x .node ≡ top t
+  pub levels : x .height ≡ height t
+  pub filled : 0 < at → Filled (x .total) t
+  pub holds : Holds w t
+  pub below : (k : ℕ) → List·Memᴰ k (numbers t) → k < n
 
--- how many marks some trees hold
-unfoldable pub all-size : List Tree → ℕ
-all-size [] = zero
-all-size (t ∷ ts) = size t + all-size ts
+-- trees that wait one after the other, from a place of the row to its last
+abbrev pub Along : List ℕ → ℕ → Row → ℕ → List Tree → Type 0
+Along w n r at [] = Unit {0}
+Along w n r at (t ∷ []) = Waits w n at t (r .last)
+Along w n r at (t ∷ u ∷ more) = Waits w n at t (item-at r at) × Along w n r (suc at) (u ∷ more)
 
--- the trees that wait for a round, the rightmost first, their numbers below n: level, and few enough
-pub record Waiting (w : List ℕ) (n : ℕ) (xs : List Item) (ts : List Tree) : Type 0 where
-  pub room : length xs ≡ places
-  pub row : Row w n xs 0 ts
-  pub high : ℕ
-  pub level : Level high ts
-  pub low : high + length ts ≤ 1024
-  pub few : all-size ts ≤ 2 ^ 16
+-- most rounds: so often can the number of leaves be halved
+abbrev pub most-rounds : ℕ
+most-rounds = 10
+
+-- what keeps a row small: as many rounds are left as halve it to nothing, each tree has twice the marks of a round
+-- before, and the last tree may be one level higher
+pub record Level (n : ℕ) (r : Row) : Type 0 where
+  pub left : ℕ
+  pub few : r .count < 2 ^ left
+  pub low : r .height + left ≡ most-rounds
+  pub total : r .total ≡ leaf-built * 2 ^ r .height
+  pub last-total : r .last .total ≤ 2 * r .total
+  pub not-lower : r .height ≤ r .last .height
+  pub not-higher : r .last .height ≤ suc (r .height)
+  pub placed : r .count ≤ suc (r .first)
+  pub within : r .first < n
+
+-- the trees that wait for a round, the rightmost first, their numbers below n
+pub record Waiting (w : List ℕ) (n : ℕ) (r : Row) (ts : List Tree) : Type 0 where
+  pub many : length ts ≡ r .count
+  pub trees : Along w n r 0 ts
+  pub level : Level n r
 
 -- a tree that stands in these words with its top at r, its numbers below n
 pub record Finished (w : List ℕ) (n : ℕ) (t : Tree) (r : ℕ) : Type 0 where
@@ -122,35 +153,35 @@ Kept w w′ n = (k : ℕ) → k < n → node-at w′ k ≡ node-at w k
 -- so many marks of some words fit so many leaves, and there is a node for each leaf
 pub record Leafy (w words : List ℕ) (total leaves : ℕ) : Type 0 where
   pub all : leaves ≡ leaf-count total
-  pub most : leaves ≤ places
+  pub most : leaves ≤ most-leaves most-nodes
   pub enough : leaves ≤ nodes-in w
   pub given : total ≤ leaf-built * length words
 
 -- after the leaves are put: they wait for the first round
-pub record Planted (w w′ : List ℕ) (xs : List Bool) (leaves : ℕ) (items : List Item) : Type 0 where
+pub record Planted (w w′ : List ℕ) (xs : List Bool) (leaves : ℕ) (r : Row) : Type 0 where
   pub kept : length w′ ≡ length w
-  pub wait : Waiting w′ leaves items (reverse (built-leaves 0 leaves xs))
+  pub many : r .count ≡ leaves
+  pub wait : Waiting w′ (r .count) r (reverse (built-leaves 0 leaves xs))
 
--- before a round: so many trees wait, and from `next` on there are nodes for the forks of all rounds
-pub record Ready (w : List ℕ) (items : List Item) (trees next : ℕ) : Type 0 where
-  pub most : trees ≤ places
-  pub enough : next + trees ≤ nodes-in w + 1
+-- before a round: the trees wait, and from `next` on there are nodes for the forks of all rounds
+pub record Ready (w : List ℕ) (r : Row) (next : ℕ) : Type 0 where
+  pub enough : next + r .count ≤ nodes-in w + 1
   pub few : nodes-in w ≤ most-nodes
   pub these : List Tree
-  pub many : length these ≡ trees
-  pub wait : Waiting w next items these
+  pub wait : Waiting w next r these
 
 -- after a round: whichever trees waited, the model's round on them waits
-pub record Rounded (w w′ : List ℕ) (items made : List Item) (trees next : ℕ) : Type 0 where
+pub record Rounded (w w′ : List ℕ) (r made : Row) (next : ℕ) : Type 0 where
   pub kept : length w′ ≡ length w
-  pub done : (ts : List Tree) → length ts ≡ trees → Waiting w next items ts
-      → Waiting w′ (next + (trees - trees / 2)) made (round next ts)
+  pub half : made .count ≡ r .count / 2
+  pub done : (ts : List Tree) → Waiting w next r ts
+      → Waiting w′ (next + (r .count - r .count / 2)) made (round next ts)
 
 -- after all rounds: whichever trees waited, the tree that the model makes of them stands
-pub record Grown (w w′ : List ℕ) (items : List Item) (leaves r : ℕ) : Type 0 where
+pub record Grown (w w′ : List ℕ) (row : Row) (r : ℕ) : Type 0 where
   pub kept : length w′ ≡ length w
-  pub done : (ts : List Tree) → length ts ≡ leaves → Waiting w leaves items ts
-      → Finished w′ (2 * leaves - 1) (rounds leaves leaves ts) r
+  pub done : (ts : List Tree) → Waiting w (row .count) row ts
+      → Finished w′ (2 * row .count - 1) (rounds (row .count) (row .count) ts) r
 
 -- after the chain is made: it goes over the numbers from `first` on, and the nodes below are as they were
 pub record Freeing (w w′ : List ℕ) (first : ℕ) (r : Chain) : Type 0 where

@@ -1,6 +1,7 @@
 // Building a tree from words: leaves of 64 marks from the left, then rounds that join pairs from the right end. Leaves
 // take the numbers from 0 on, forks the next ones as they are made, and the numbers that are left form the free chain
-// upward.
+// upward. Of the trees that wait to be joined only the leftmost is remembered: what the others are follows from their
+// places.
 use bits::Leaf;
 use pool::Chain;
 use pool::Fork;
@@ -8,6 +9,7 @@ use pool::node_count;
 use pool::set_fork;
 use pool::set_free;
 use pool::set_leaf;
+use tree::rank;
 ghost use mathlib.Core.Option.{some};
 ghost use mathlib.Core.Path.{_≡_};
 ghost use Prim.Native.Nat.{max, min, suc, _*_, _-_, _<_, _≤_, _^_};
@@ -16,22 +18,30 @@ ghost use Rattle.model.specs.Build.{leaf-count};
 ghost use Rattle.model.specs.Pool as Pool;
 ghost use Rattle.model.specs.Word.{bits as bits-in, marks-of};
 ghost use Rattle.bits.specs.Leaf.{leaf-of};
-ghost use Rattle.pool.specs.Node.{leaf-cell, nodes-in, put};
+ghost use Rattle.pool.specs.Node.{nodes-in};
 ghost use Rattle.build.specs.Built.{Room, BuiltAs};
-ghost use Rattle.build.specs.Waiting.{Forked, Freeing, Grown, Leafy, Planted, Ready, Rounded, Small, leaf-item, leaf-marks, nothing as no-item};
+ghost use Rattle.build.specs.Waiting.{Forked, Freeing, Grown, Joinable, Leafy, Planted, Ready, Rounded};
+ghost use Rattle.build.specs.Waiting.{item-at, leaf-marks, row-above};
 
 // How many marks a built leaf takes, the last one perhaps fewer.
 const LEAF_BUILT: u64 = 64;
 
-// How many trees wait at most: the leaves that 1,023 nodes have room for.
-const PLACES: usize = 512;
-
-// A tree that waits to be joined: its top number, its marks, its strikes and its height.
+// A tree that waits to be joined: its top number, its marks and its height.
 struct Item {
     node: u64,
     total: u64,
-    ones: u64,
     height: u64,
+}
+
+// The trees that wait for a round, so many of them, the rightmost first. All but the last are of one height and, but
+// for the first, of as many marks; the first has the number `first`, and the next ones' fall where they are leaves, and
+// rise where they are forks. The marks of the rightmost are never asked for, since it is no left child.
+struct Row {
+    first: u64,
+    total: u64,
+    height: u64,
+    count: u64,
+    last: Item,
 }
 
 pub struct Built {
@@ -47,17 +57,6 @@ pub fn leaf_count(length: u64) -> u64
         return 1;
     }
     (length - 1) / LEAF_BUILT + 1
-}
-
-fn nothing() -> Item
-    ensures { λ r. ⌜ r ≡ no-item ⌝ }
-{
-    Item {
-        node: 0,
-        total: 0,
-        ones: 0,
-        height: 0,
-    }
 }
 
 // How many marks the leaf i takes.
@@ -95,39 +94,47 @@ fn leaf_of_words(words: &[u64], length: u64, i: u64) -> Leaf
     first_marks(words[at], total)
 }
 
-// Puts the leaf i at its number.
-fn put_leaf(nodes: &mut [u64], words: &[u64], length: u64, i: u64) -> Item
-    requires { ⌜ (i * 64 ≤ length) × (length ≤ 64 * count-of (now words)) ⌝ }
-    ensures { λ r. ⌜ (r ≡ leaf-item i (leaf-marks (now (words .entry)) length i))
-        × (now (nodes .exit) ≡ put (now (nodes .entry)) i
-        (leaf-cell (leaf-of (leaf-marks (now (words .entry)) length i)))) ⌝ }
-{
-    let total = leaf_total(length, i);
-    let leaf = leaf_of_words(words, length, i);
-    set_leaf(nodes, i, leaf);
-    Item {
-        node: i,
-        total,
-        ones: leaf.count_before(total, true),
-        height: 0,
-    }
-}
-
-// Puts every leaf, and hands them back with the rightmost first.
-fn put_leaves(nodes: &mut [u64], words: &[u64], length: u64, leaves: u64) -> [Item; 512]
+// Puts every leaf at its number.
+fn put_leaves(nodes: &mut [u64], words: &[u64], length: u64, leaves: u64) -> Row
     requires { ⌜ Leafy (now nodes) (now words) length leaves ⌝ }
     ensures { λ r. ⌜ Planted (now (nodes .entry)) (now (nodes .exit))
         (take length (marks-of (now (words .entry)))) leaves r ⌝ }
 {
-    let mut items = [nothing(); PLACES];
     let mut i = 0;
     while i < leaves {
-        let item = put_leaf(nodes, words, length, i);
-        let at = (leaves - 1 - i) as usize;
-        items[at] = item;
+        set_leaf(nodes, i, leaf_of_words(words, length, i));
         i += 1;
     }
-    items
+    Row {
+        first: leaves - 1,
+        total: LEAF_BUILT,
+        height: 0,
+        count: leaves,
+        last: Item {
+            node: 0,
+            total: LEAF_BUILT,
+            height: 0,
+        },
+    }
+}
+
+// The tree at a place of a row, the rightmost at 0; not the last one.
+fn waiting(row: Row, at: u64) -> Item
+    requires { ⌜ (at ≤ row .first) × (row .first < 2 ^ 32) ⌝ }
+    ensures { λ r. ⌜ r ≡ item-at row at ⌝ }
+{
+    if row.height == 0 {
+        return Item {
+            node: row.first - at,
+            total: row.total,
+            height: row.height,
+        };
+    }
+    Item {
+        node: row.first + at,
+        total: row.total,
+        height: row.height,
+    }
 }
 
 // The height of a fork over these heights.
@@ -143,9 +150,10 @@ fn above(left: u64, right: u64) -> u64
 
 // Joins two trees by a fork at n. The stored balance is two more than right height less left height.
 fn joined(nodes: &mut [u64], n: u64, left: Item, right: Item) -> Item
-    requires { ⌜ Small left right ⌝ }
+    requires { ⌜ Joinable (now nodes) left right ⌝ }
     ensures { λ r. ⌜ Forked (now (nodes .entry)) (now (nodes .exit)) n left right r ⌝ }
 {
+    let ones = rank(nodes, left.node, left.total, left.total, true);
     set_fork(
         nodes,
         n,
@@ -153,64 +161,69 @@ fn joined(nodes: &mut [u64], n: u64, left: Item, right: Item) -> Item
             left: left.node,
             right: right.node,
             left_total: left.total,
-            left_ones: left.ones,
+            left_ones: ones,
             balance: right.height + 2 - left.height,
         },
     );
     Item {
         node: n,
         total: left.total + right.total,
-        ones: left.ones + right.ones,
         height: above(left.height, right.height),
     }
 }
 
-// One round on the first `count` trees, two or more, the rightmost first: pairs are joined while four or more are left,
-// then the last pair, and an odd first tree joins, as left child, that pair. The forks take the numbers from `next` on.
-fn round(nodes: &mut [u64], items: [Item; 512], count: u64, next: u64) -> [Item; 512]
-    requires { ⌜ (2 ≤ count) × Ready (now nodes) items count next ⌝ }
-    ensures { λ r. ⌜ Rounded (now (nodes .entry)) (now (nodes .exit)) items r count next ⌝ }
+// What waits after a round, the last tree being told.
+fn row_above(row: Row, next: u64, last: Item) -> Row
+    requires { ⌜ (row .total < 2 ^ 32) × (row .height < 2 ^ 32) ⌝ }
+    ensures { λ r. ⌜ r ≡ row-above row next last ⌝ }
 {
-    let mut made = items;
+    Row {
+        first: next,
+        total: row.total * 2,
+        height: row.height + 1,
+        count: row.count / 2,
+        last,
+    }
+}
+
+// One round on two or more trees: pairs are joined while four or more are left, then the last pair, and an odd last
+// tree joins, as left child, that pair. The forks take the numbers from `next` on.
+fn round(nodes: &mut [u64], row: Row, next: u64) -> Row
+    requires { ⌜ (2 ≤ row .count) × Ready (now nodes) row next ⌝ }
+    ensures { λ r. ⌜ Rounded (now (nodes .entry)) (now (nodes .exit)) row r next ⌝ }
+{
     let mut i = 0;
-    while i * 2 + 3 < count {
-        let at = (i * 2) as usize;
-        let right = items[at];
-        let left = items[at + 1];
-        let pair = joined(nodes, next + i, left, right);
-        let to = i as usize;
-        made[to] = pair;
+    while i * 2 + 3 < row.count {
+        joined(
+            nodes,
+            next + i,
+            waiting(row, i * 2 + 1),
+            waiting(row, i * 2),
+        );
         i += 1;
     }
-    let to = i as usize;
-    let at = to * 2;
-    let right = items[at];
-    let left = items[at + 1];
-    let pair = joined(nodes, next + i, left, right);
-    if count % 2 == 0 {
-        made[to] = pair;
-        return made;
+    let right = waiting(row, i * 2);
+    let last = row.last;
+    if row.count % 2 == 0 {
+        return row_above(row, next, joined(nodes, next + i, last, right));
     }
-    let odd = items[at + 2];
-    let last = joined(nodes, next + i + 1, odd, pair);
-    made[to] = last;
-    made
+    let pair = joined(nodes, next + i, waiting(row, i * 2 + 1), right);
+    row_above(row, next, joined(nodes, next + i + 1, last, pair))
 }
 
 // Round upon round until one tree is left; its number.
-fn rounds(nodes: &mut [u64], items: [Item; 512], leaves: u64) -> u64
-    requires { ⌜ (1 ≤ leaves) × Ready (now nodes) items leaves leaves ⌝ }
-    ensures { λ r. ⌜ Grown (now (nodes .entry)) (now (nodes .exit)) items leaves r ⌝ }
+fn rounds(nodes: &mut [u64], leaves: Row) -> u64
+    requires { ⌜ (1 ≤ leaves .count) × Ready (now nodes) leaves (leaves .count) ⌝ }
+    ensures { λ r. ⌜ Grown (now (nodes .entry)) (now (nodes .exit)) leaves r ⌝ }
 {
-    let mut now = items;
-    let mut count = leaves;
-    let mut next = leaves;
-    while count > 1 {
-        now = round(nodes, now, count, next);
-        next += count - count / 2;
-        count = count / 2;
+    let mut row = leaves;
+    let mut next = leaves.count;
+    while row.count > 1 {
+        let taken = row.count - row.count / 2;
+        row = round(nodes, row, next);
+        next += taken;
     }
-    let last = now[0];
+    let last = row.last;
     last.node
 }
 
@@ -239,8 +252,8 @@ pub fn build(nodes: &mut [u64], words: &[u64], length: u64) -> Built
         → BuiltAs (now (nodes .exit)) (nodes-in (now (nodes .entry))) r p) ⌝ }
 {
     let leaves = leaf_count(length);
-    let items = put_leaves(nodes, words, length, leaves);
-    let root = rounds(nodes, items, leaves);
+    let row = put_leaves(nodes, words, length, leaves);
+    let root = rounds(nodes, row);
     let chain = chain_from(nodes, leaves * 2 - 1);
     Built { root, chain }
 }

@@ -6,19 +6,16 @@ use mathlib.Core.Path.{_≡_, sym, ap, _∙_}
 use mathlib.Core.Bool.{Bool}
 use mathlib.Core.List.{List, reverse}
 use denote.Ref.{now}
-use lib.ListN.{length, length-reverse, take}
+use lib.ListN.{length, take}
 use lib.Seq.{length-take-le}
 use Rattle.model.specs.Build.{built-leaves, leaf-count}
 use Rattle.model.specs.Word.{marks-of}
-use Rattle.model.proofs.Rounds.{built-leaves-length, leaf-count-some}
+use Rattle.model.proofs.Rounds.{leaf-count-some}
 use Rattle.pool.specs.Node.{nodes-in}
 use Rattle.build.proofs.LeafMarks.{marks-of-length}
 use Rattle.build.proofs.WholeBuild.{stands}
 use Rattle.build.proofs.building.build.Statement.{statement}
 use Rattle.build.proofs.building.build.Tie as tie
-
-leaves-many : (k : ℕ) (xs : List Bool) → length (reverse (built-leaves 0 k xs)) ≡ k
-leaves-many k xs = simp (length-reverse, built-leaves-length)
 
 rounds-requires : tie.Need-rounds-requires
 rounds-requires c κs =
@@ -30,14 +27,13 @@ rounds-requires c κs =
     let some = leaf-count-some (a .length) in
     let e = n .ensures in
     let size = p .ensures .kept in
+    let many = p .ensures .many in
     let xs : List Bool = take (a .length) (marks-of (now (a .words))) in (
       omega arith,
       record {
-        most = omega arith;
         enough = omega arith;
         few = omega arith;
         these = reverse (built-leaves 0 (n .result) xs);
-        many = leaves-many (n .result) xs;
         wait = p .ensures .wait;
       },
     )
@@ -81,7 +77,7 @@ returns c p f =
     let need : k * 2 - 1 ≡ 2 * k - 1 = omega arith in
     stands (root .last .0) (chain .last .0) (nodes-in (now (a .nodes))) k xs _ p
     (e ∙ ap leaf-count (sym all)) f (omega (arith, room .enough))
-    (root .ensures .done (reverse (built-leaves 0 k xs)) (leaves-many k xs) (leaves .ensures .wait))
+    (rw (leaves .ensures .many) at (root .ensures .done (reverse (built-leaves 0 k xs)) (leaves .ensures .wait)))
     (rw need at (chain .ensures .below)) (omega (arith, room .whole)) first many (rw (same, need) at (chain .ensures .chain))
 
 pub build-spec : {M : Type 1} → statement M

@@ -3,125 +3,187 @@ use Prim.Native.Nat.{suc, _+_, _-_, _*_, _/_, _≤_}
 use native.Mathlib.Numerals.{add-one}
 use native.Mathlib.Omega.{arith}
 use borrow.Author.Needs.{needs}
-use mathlib.Core.Path.{_≡_, refl}
+use mathlib.Core.Path.{_≡_, refl, _∙_}
 use mathlib.Core.List.{List}
-use lib.ListN.{length, length-set}
+use lib.ListN.{length}
 use Rattle.model.specs.Tree.{Tree}
-use Rattle.build.specs.Waiting.{Waiting, places}
-use Rattle.build.proofs.Pairing.{Parted, even-ends, no-pair, odd-ends, odd-small, pair-more, pair-small}
+use Rattle.build.specs.Waiting.{Waiting}
+use Rattle.build.proofs.Pairing.{Parted, even-ends, last-joinable, low, no-pair, odd-ends, odd-joinable, pair-joinable, pair-more, small-total}
 use Rattle.build.proofs.building.round.Statement.{statement}
 use Rattle.build.proofs.building.round.Tie as tie
 
 abbrev Inv-loop : tie.InvT-loop
-Inv-loop nodes₀ count next items made₀ i₀ nodes made i =
-    (i * 2 + 2 ≤ count) × (length nodes ≡ length nodes₀) × (length made ≡ places)
-    × ((ts : List Tree) → length ts ≡ count → Waiting nodes₀ next items ts → Parted nodes next items made i ts)
+Inv-loop nodes₀ row next i₀ nodes i =
+    (i * 2 + 2 ≤ row .count) × (length nodes ≡ length nodes₀)
+    × ((ts : List Tree) → Waiting nodes₀ next row ts → Parted nodes next row i ts)
 
 abbrev μ-loop : tie.MeasureT-loop
-μ-loop nodes₀ count next items made₀ i₀ nodes made i = count - i
-
--- ---- a pass
+μ-loop nodes₀ row next i₀ nodes i = row .count - i
 
 loop-holds : tie.Need-loop-holds Inv-loop μ-loop
-loop-holds c = (omega arith, refl, c .before .pre .1 .wait .room, λ ts e b. no-pair b)
+loop-holds c = (omega arith, refl, λ ts b. no-pair b)
+
+waiting-requires : tie.Need-waiting-requires Inv-loop μ-loop
+waiting-requires c κs =
+    let start = c .before .before .before .before .before in
+    let ready = start .pre .1 in
+    let level = ready .wait .level in
+    (omega (arith, level .placed), omega (arith, level .within, ready .enough, ready .few))
+
+waiting-requires-2 : tie.Need-waiting-requires-2 Inv-loop μ-loop
+waiting-requires-2 c κs =
+    let start = c .before .before .before .before .before .before in
+    let ready = start .pre .1 in
+    let level = ready .wait .level in
+    (omega (arith, level .placed), omega (arith, level .within, ready .enough, ready .few))
 
 joined-requires : tie.Need-joined-requires Inv-loop μ-loop
 joined-requires c κs =
-    let at-loop = c .before .before .before .before in
+    let at-loop = c .before .before .before .before .before in
     let ready = at-loop .before .before .pre .1 in
-    let p = at-loop .loop .inv .3 (ready .these) (ready .many) (ready .wait) in
-    pair-small (p .0) (p .1) (p .2) (omega (arith, ready .many))
+    let p = at-loop .loop .inv .2 (ready .these) (ready .wait) in
+    rw (c .before .waiting .ensures, c .waiting2 .ensures)
+    (pair-joinable (ready .wait .level) (omega arith) (p .0) (p .1) (p .2) (omega (arith, ready .wait .many)))
 
 loop-again : tie.Need-loop-again Inv-loop μ-loop
 loop-again c =
-    let right = c .before .before .before .before .before in
-    let loop-place = right .before .before in
+    let second = c .before .before .before in
+    let first = second .before in
+    let loop-place = first .before .before .before .before in
+    let start = loop-place .before .before in
     let s = loop-place .loop in
     let j = c .before .before .joined in
     let size : length (j .last .0) ≡ length (s .nodes) = j .kept .0 in
-    let room = s .inv .2 in (
+    let forked = rw (first .waiting .ensures, second .waiting2 .ensures) at (j .ensures) in (
       omega arith,
       omega arith,
-      simp length-set room,
-      λ ts e b. let p = s .inv .3 ts e b in rw add-one (pair-more (p .0) (p .1) (p .2) (omega arith) (omega arith) (omega arith) (j .ensures)),
+      λ ts b.
+          let p = s .inv .2 ts b in
+          rw add-one (pair-more (b .level) (omega arith) (p .0) (p .1) (p .2) (omega (arith, b .many)) (omega (arith, start .pre .1 .enough)) forked),
     )
 
--- ---- the last pair
+waiting-requires-3 : tie.Need-waiting-requires-3 Inv-loop μ-loop
+waiting-requires-3 c κs =
+    let start = c .before .before .before .before in
+    let ready = start .pre .1 in
+    let level = ready .wait .level in
+    (omega (arith, level .placed), omega (arith, level .within, ready .enough, ready .few))
 
 joined-requires-2 : tie.Need-joined-requires-2 Inv-loop μ-loop
 joined-requires-2 c κs =
-    let at-loop = c .before .before .before .before in
+    let right = c .before .before .before .before in
+    let at-loop = right .before .before .before in
     let ready = at-loop .before .before .pre .1 in
-    let p = at-loop .loop .inv .3 (ready .these) (ready .many) (ready .wait) in
-    pair-small (p .0) (p .1) (p .2) (omega (arith, ready .many))
+    let p = at-loop .loop .inv .2 (ready .these) (ready .wait) in
+    rw (right .waiting3 .ensures)
+    (last-joinable (ready .wait .level) (omega arith) (p .0) (p .1) (p .2) (omega (arith, ready .wait .many)))
+
+row-above-requires : tie.Need-row-above-requires Inv-loop μ-loop
+row-above-requires c κs =
+    let start = c .before .before .before .before .before .before .before .before .before .before .before .before in
+    let level = start .pre .1 .wait .level in
+    (omega (arith, small-total level (omega arith)), omega (arith, low level (omega arith)))
 
 returns : tie.Need-returns Inv-loop μ-loop
 returns c =
-    let left2 = c .before .before .before .before .before in
-    let loop-place = left2 .before .before .before in
-    let start = loop-place .before .before in
-    let s = loop-place .loop in
+    let fork = c .before .before .before in
+    let right = fork .before .before .before .before .before in
+    let at-loop = right .before .before .before in
+    let start = at-loop .before .before in
+    let s = at-loop .loop in
     let a = start .args in
-    let j = c .before .before .before .joined2 in
+    let j = fork .joined2 in
     let size : length (j .last .0) ≡ length (s .nodes) = j .kept .0 in
-    let room = s .inv .2 in
     let kept = s .inv .1 in
-    record {
+    let forked = rw (right .waiting3 .ensures) at (j .ensures) in
+    rw (c .row-above .ensures)
+    (record {
       kept = omega arith;
-      done = λ ts e b.
-          let p = s .inv .3 ts e b in
-          let last : a .next + (a .count - a .count / 2) ≡ suc (a .next + s .i) = omega arith in
-          rw last (even-ends (p .0) (p .1) b (p .2) (omega arith) (omega arith) room (omega arith) (j .ensures));
-    }
+      half = refl;
+      done = λ ts b.
+          let p = s .inv .2 ts b in
+          let last : a .next + (a .row .count - a .row .count / 2) ≡ suc (a .next + s .i) = omega arith in
+          rw last (even-ends (b .level) (omega arith) (p .0) (p .1) b (p .2) (omega (arith, b .many)) (omega (arith, start .pre .1 .enough)) forked);
+    })
 
--- ---- an odd tree
+waiting-requires-4 : tie.Need-waiting-requires-4 Inv-loop μ-loop
+waiting-requires-4 c κs =
+    let start = c .before .before .before .before .before .before .before .before .before in
+    let ready = start .pre .1 in
+    let level = ready .wait .level in
+    (omega (arith, level .placed), omega (arith, level .within, ready .enough, ready .few))
 
 joined-requires-3 : tie.Need-joined-requires-3 Inv-loop μ-loop
 joined-requires-3 c κs =
-    let joined2-place = c .before .before .before .before .before in
-    let loop-place = joined2-place .before .before .before .before .before in
-    let start = loop-place .before .before in
-    let s = loop-place .loop in
-    let ready = start .pre .1 in
-    let j = joined2-place .joined2 in
-    let p = s .inv .3 (ready .these) (ready .many) (ready .wait) in
-    odd-small (j .result) (p .0) (p .1) (p .2) (omega (arith, ready .many)) (j .ensures .item)
+    let right = c .before .before .before .before .before in
+    let at-loop = right .before .before .before in
+    let ready = at-loop .before .before .pre .1 in
+    let p = at-loop .loop .inv .2 (ready .these) (ready .wait) in
+    rw (right .waiting3 .ensures, c .waiting4 .ensures)
+    (pair-joinable (ready .wait .level) (omega arith) (p .0) (p .1) (p .2) (omega (arith, ready .wait .many)))
+
+joined-requires-4 : tie.Need-joined-requires-4 Inv-loop μ-loop
+joined-requires-4 c κs =
+    let pair = c .before .before .before in
+    let left = pair .before in
+    let right = left .before .before .before .before .before in
+    let at-loop = right .before .before .before in
+    let ready = at-loop .before .before .pre .1 in
+    let p = at-loop .loop .inv .2 (ready .these) (ready .wait) in
+    let forked = rw (right .waiting3 .ensures, left .waiting4 .ensures) at (pair .joined3 .ensures) in
+    odd-joinable (ready .wait .level) (omega arith) (p .0) (p .1) (p .2) (omega (arith, ready .wait .many)) (omega (arith, ready .enough)) forked
+
+row-above-requires-2 : tie.Need-row-above-requires-2 Inv-loop μ-loop
+row-above-requires-2 c κs =
+    let pair = c .before .before .before .before .before .before in
+    let start = pair .before .before .before .before .before .before .before .before .before .before .before in
+    let level = start .pre .1 .wait .level in
+    (omega (arith, small-total level (omega arith)), omega (arith, low level (omega arith)))
 
 returns-2 : tie.Need-returns-2 Inv-loop μ-loop
 returns-2 c =
-    let else1 = c .before .before .before .before .before in
-    let joined2-place = else1 .before .before .before in
-    let loop-place = joined2-place .before .before .before .before in
-    let loop-place-place = loop-place .before in
-    let t = loop-place-place .before .before in
-    let s = loop-place-place .loop in
-    let a = t .args in
-    let fits = t .pre .1 .enough in
-    let some = s .inv .0 in
-    let stopped = loop-place .loop-test .left in
-    let j = joined2-place .joined2 in
-    let k = c .before .before .joined3 in
+    let fork = c .before .before .before in
+    let pair = fork .before .before .before .before in
+    let left = pair .before in
+    let right = left .before .before .before .before .before in
+    let at-loop = right .before .before .before in
+    let start = at-loop .before .before in
+    let s = at-loop .loop in
+    let a = start .args in
+    let j = pair .joined3 in
+    let k = fork .joined4 in
     let size : length (j .last .0) ≡ length (s .nodes) = j .kept .0 in
     let again : length (k .last .0) ≡ length (j .last .0) = k .kept .0 in
     let kept = s .inv .1 in
-    let room = s .inv .2 in
-    record {
+    let some = s .inv .0 in
+    let forked = rw (right .waiting3 .ensures, left .waiting4 .ensures) at (j .ensures) in
+    rw (c .row-above2 .ensures)
+    (record {
       kept = omega arith;
-      done = λ ts e b.
-          let p = s .inv .3 ts e b in
-          let last : a .next + (a .count - a .count / 2) ≡ suc (suc (a .next + s .i)) = omega arith in
+      half = refl;
+      done = λ ts b.
+          let p = s .inv .2 ts b in
+          let last : a .next + (a .row .count - a .row .count / 2) ≡ suc (suc (a .next + s .i)) = omega arith in
           rw last
-          (odd-ends (p .0) (p .1) b (p .2) (omega arith) (omega arith) room (omega arith) (j .ensures)
+          (odd-ends (b .level) (omega arith) (p .0) (p .1) b (p .2) (omega (arith, b .many)) (omega (arith, start .pre .1 .enough)) forked
           (rw (add-one (a .next + s .i)) at (k .ensures)));
-    }
+    })
+
+same-length-2 : tie.Need-same-length-2 Inv-loop μ-loop
+same-length-2 c =
+    let fork = c .before .before .before in
+    let pair = fork .before .before .before .before in
+    let at-loop = pair .before .before .before .before .before .before .before .before .before in
+    let size : length (pair .joined3 .last .0) ≡ length (at-loop .loop .nodes) = pair .joined3 .kept .0 in
+    let again : length (fork .joined4 .last .0) ≡ length (pair .joined3 .last .0) = fork .joined4 .kept .0 in
+    again ∙ size ∙ at-loop .loop .inv .1
 
 pub round-spec : {M : Type 1} → statement M
 round-spec =
     tie.close
     (tie.spec
-    Inv-loop μ-loop loop-holds (λ c. search needs) (λ c. search needs) (λ c. search needs) (λ c. search needs) (λ c. search needs)
-    (λ c. search needs) (λ c. search needs) (λ c. search needs) (λ c. search needs) joined-requires (λ c. search needs) (λ c. search needs)
-    (λ c. search needs) (λ c. search needs) loop-again (λ c. search needs) (λ c. search needs) (λ c. search needs) (λ c. search needs)
-    (λ c. search needs) (λ c. search needs) (λ c. search needs) joined-requires-2 (λ c. search needs) (λ c. search needs) (λ c. search needs)
-    returns (λ c. search needs) (λ c. search needs) (λ c. search needs) (λ c. search needs) (λ c. search needs) joined-requires-3
-    (λ c. search needs) (λ c. search needs) (λ c. search needs) returns-2)
+    Inv-loop μ-loop loop-holds (λ c. search needs) (λ c. search needs) (λ c. search needs) (λ c. search needs) (λ c. search needs) waiting-requires
+    (λ c. search needs) waiting-requires-2 joined-requires (λ c. search needs) (λ c. search needs) loop-again (λ c. search needs)
+    waiting-requires-3 (λ c. search needs) joined-requires-2 row-above-requires (λ c. search needs) returns (λ c. search needs) (λ c. search needs)
+    (λ c. search needs) waiting-requires-4 joined-requires-3 (λ c. search needs) (λ c. search needs) joined-requires-4 row-above-requires-2
+    same-length-2 returns-2)
