@@ -20,10 +20,10 @@
  *
  * Pointers   are aligned as uint64_t is (8 bytes), and not null also where their count is 0. Slices that are written must not overlap other
  *            slices of the same call.
- * Stack      sz_build uses some 49,000 bytes, the others some 3,000 (measured; docs/FLIGHT.md). Recursion is at most 12 levels deep.
+ * Stack      less than 4 KiB below the caller for each call (measured; docs/FLIGHT.md). Recursion is at most 12 levels deep.
  * Reentrancy No static data: calls on pools that do not overlap may be made at the same time. A pool must not change during a call on it
  *            but by that call.
- * Needs      memcpy and memset.
+ * Needs      nothing: it calls no function but its own.
  */
 #ifndef SPELUNZONE_H
 #define SPELUNZONE_H

@@ -1,5 +1,6 @@
-/* How much stack each call uses: it is made in a thread whose stack was painted before, and the paint that is gone afterwards is counted. The host's
- * own frames are measured with an empty call and taken off. */
+/* How much stack each call uses: it is made in a thread whose stack below the caller's frame was painted before, and the
+ * paint that is gone afterwards is counted. What an empty call uses is taken off. For x86-64. */
+#define _POSIX_C_SOURCE 200112L
 #include <pthread.h>
 #include <stdio.h>
 #include <stdlib.h>
@@ -12,6 +13,7 @@
 #define NODES 1023
 #define POOL SZ_POOL_WORDS(NODES)
 #define ORDERS 2000
+#define LEVELS 12
 
 static unsigned char *stack;
 static uint64_t pool[POOL], marks[512], out[2 * ORDERS], orders[3 * ORDERS], state = 1;
@@ -48,17 +50,30 @@ static void *run(void *unused) {
     return unused;
 }
 
+static void *(*called)(void *);
+static size_t deepest;
+
+static void *painted(void *unused) {
+    unsigned char *top;
+    __asm__ volatile("mov %%rsp, %0" : "=r"(top));
+    for (volatile unsigned char *at = stack; at < top; at++)
+        *at = PAINT;
+    called(unused);
+    const unsigned char *left = stack;
+    while (left < top && *left == PAINT)
+        left++;
+    deepest = (size_t)(top - left);
+    return unused;
+}
+
 static size_t used(void *(*call)(void *)) {
     pthread_attr_t attributes;
     pthread_t thread;
-    memset(stack, PAINT, STACK);
-    if (pthread_attr_init(&attributes) || pthread_attr_setstack(&attributes, stack, STACK) || pthread_create(&thread, &attributes, call, NULL) ||
-        pthread_join(thread, NULL))
+    called = call;
+    if (pthread_attr_init(&attributes) || pthread_attr_setstack(&attributes, stack, STACK) ||
+        pthread_create(&thread, &attributes, painted, NULL) || pthread_join(thread, NULL))
         exit(1);
-    size_t left = 0;
-    while (left < STACK && stack[left] == PAINT)
-        left++;
-    return STACK - left;
+    return deepest;
 }
 
 /* The most over some turns, less what an empty call uses. */
@@ -72,36 +87,67 @@ static size_t most(void *(*call)(void *), int turns, void (*before)(void)) {
     return best - empty;
 }
 
-static void full(void) { need(sz_build(pool, POOL, marks, 512, 32768)); }
-
 static uint64_t number, length;
 
-/* Lists of one order at random places. */
-static void listed(void) {
+/* The thinnest balanced tree of a height, its left sides the higher ones, of leaves of 64 marks: as deep as a pool has room for. */
+static uint64_t next;
+
+static uint64_t thin(int height, uint64_t *strikes, uint64_t *total) {
+    const uint64_t top = next++;
+    uint64_t *const node = pool + 6 * top;
+    memset(node, 0, 48);
+    if (height <= 0) {
+        node[0] = 1;
+        node[1] = marks[top % 512];
+        *strikes = (uint64_t)__builtin_popcountll(node[1]);
+        *total = 64;
+        return top;
+    }
+    uint64_t right_strikes, right_total;
+    node[0] = 2;
+    node[1] = thin(height - 1, node + 4, node + 3);
+    node[2] = thin(height - 2, &right_strikes, &right_total);
+    node[5] = height == 1 ? 2 : 1;
+    *strikes = node[4] + right_strikes;
+    *total = node[3] + right_total;
+    return top;
+}
+
+static void deep(void) {
+    uint64_t strikes, *const trailer = pool + 6 * NODES;
+    next = 0;
+    memset(pool, 0, sizeof pool);
+    trailer[0] = thin(LEVELS, &strikes, &length);
+    trailer[1] = length;
+    trailer[2] = next;
+    trailer[3] = NODES - next;
+    trailer[4] = NODES;
+    for (uint64_t n = next; n < NODES; n++)
+        pool[6 * n + 1] = n + 1;
+    need(sz_check(pool, POOL));
+}
+
+/* A list of one order, its places among so many. */
+static void listed(uint64_t places) {
     for (size_t i = 0; i < ORDERS; i++) {
-        const uint64_t place = drawn() % (length - ORDERS);
         orders[3 * i] = number;
-        orders[3 * i + 1] = number == SZ_QUIET ? 0 : place + 1;
+        orders[3 * i + 1] = number == SZ_QUIET ? 0 : drawn() % places + 1;
         orders[3 * i + 2] = number == SZ_INSERT || number == SZ_RANK || number == SZ_SELECT ? drawn() % 2 : 0;
     }
 }
 
-static void steady(void) { listed(); }
+static void steady(void) { listed(length - ORDERS); }
 
-/* Only the left half grows or shrinks, so that the tree is turned often. */
-static void lopsided(void) {
-    listed();
-    for (size_t i = 0; i < ORDERS; i++)
-        orders[3 * i + 1] = drawn() % 64;
-}
+/* Only the left end grows or shrinks, so that the tree is turned often. */
+static void lopsided(void) { listed(64); }
 
 static void ordered(const char *name, uint64_t order) {
+    void (*const lists[])(void) = {steady, lopsided};
     size_t best = 0;
     number = order;
-    for (int skew = 0; skew < 2; skew++) {
-        length = 15000;
-        need(sz_build(pool, POOL, marks, 512, length));
-        size_t here = most(run, order == SZ_QUIET ? 2 : 6, skew && order <= SZ_REMOVE ? lopsided : steady);
+    for (int list = 0; list < 2; list++) {
+        deep();
+        const size_t here = most(run, order == SZ_QUIET ? 2 : 6, lists[list]);
         best = here > best ? here : best;
     }
     printf("  run, %-8s %6zu bytes\n", name, best);
@@ -112,9 +158,9 @@ int main(void) {
         return 1;
     for (size_t i = 0; i < 512; i++)
         marks[i] = drawn() << 32 ^ drawn();
-    printf("  check         %6zu bytes\n", most(check, 1, full));
-    printf("  build         %6zu bytes\n", most(build, 1, full));
-    printf("  values        %6zu bytes\n", most(values, 1, full));
+    printf("  check         %6zu bytes\n", most(check, 1, deep));
+    printf("  build         %6zu bytes\n", most(build, 1, deep));
+    printf("  values        %6zu bytes\n", most(values, 1, deep));
     ordered("insert", SZ_INSERT);
     ordered("remove", SZ_REMOVE);
     ordered("access", SZ_ACCESS);
