@@ -1,5 +1,5 @@
 -- Each pass joins one pair more; then the last pair is joined, and an odd tree to it. Assumes nothing.
-use Prim.Native.Nat.{suc, _+_, _-_, _*_, _/_, _≤_}
+use Prim.Native.Nat.{ℕ, suc, _+_, _-_, _*_, _/_, _^_, _<_, _≤_}
 use native.Mathlib.Numerals.{add-one}
 use native.Mathlib.Omega.{arith}
 use borrow.Author.Needs.{needs}
@@ -7,7 +7,10 @@ use mathlib.Core.Path.{_≡_, refl, _∙_}
 use mathlib.Core.List.{List}
 use lib.ListN.{length}
 use Rattle.model.specs.Tree.{Tree}
-use Rattle.build.specs.Waiting.{Waiting}
+use Rattle.model.specs.Build.{round}
+use Rattle.build.specs.Waiting.{Ready, Rounded, Waiting, row-above}
+use Rattle.build.specs.declared.building.Item.{Item}
+use Rattle.build.specs.declared.building.Row.{Row}
 use Rattle.build.proofs.Pairing.{Parted, even-ends, last-joinable, low, no-pair, odd-ends, odd-joinable, pair-joinable, pair-more, small-total}
 use Rattle.build.proofs.building.round.Statement.{statement}
 use Rattle.build.proofs.building.round.Tie as tie
@@ -20,22 +23,32 @@ Inv-loop nodes₀ row next i₀ nodes i =
 abbrev μ-loop : tie.MeasureT-loop
 μ-loop nodes₀ row next i₀ nodes i = row .count - i
 
+-- a place of the row has a number that fits
+placed : {w : List ℕ} {r : Row} {next at : ℕ} → Ready w r next → at < r .count → (at ≤ r .first) × (r .first < 2 ^ 32)
+placed ready h =
+    let level = ready .wait .level in
+    (omega (arith, level .placed), omega (arith, level .within, ready .enough, ready .few))
+
+-- a row that can be joined once more has small trees
+doubled : {w : List ℕ} {r : Row} {next : ℕ} → Ready w r next → 2 ≤ r .count → (r .total < 2 ^ 32) × (r .height < 2 ^ 32)
+doubled ready h =
+    let level = ready .wait .level in
+    (omega (arith, small-total level (omega arith)), omega (arith, low level (omega arith)))
+
+-- what waits after the last fork of a round
+ended : {w w′ : List ℕ} {r : Row} {next m : ℕ} {y : Item} → length w′ ≡ length w → next + (r .count - r .count / 2) ≡ m
+    → ((ts : List Tree) → Waiting w next r ts → Waiting w′ m (row-above r next y) (round next ts))
+    → Rounded w w′ r (row-above r next y) next
+ended kept last waits = record { kept = kept; half = refl; done = λ ts b. rw last (waits ts b) }
+
 loop-holds : tie.Need-loop-holds Inv-loop μ-loop
 loop-holds c = (omega arith, refl, λ ts b. no-pair b)
 
 waiting-requires : tie.Need-waiting-requires Inv-loop μ-loop
-waiting-requires c κs =
-    let start = c .before .before .before .before .before in
-    let ready = start .pre .1 in
-    let level = ready .wait .level in
-    (omega (arith, level .placed), omega (arith, level .within, ready .enough, ready .few))
+waiting-requires c κs = placed (c .before .before .before .before .before .pre .1) (omega arith)
 
 waiting-requires-2 : tie.Need-waiting-requires-2 Inv-loop μ-loop
-waiting-requires-2 c κs =
-    let start = c .before .before .before .before .before .before in
-    let ready = start .pre .1 in
-    let level = ready .wait .level in
-    (omega (arith, level .placed), omega (arith, level .within, ready .enough, ready .few))
+waiting-requires-2 c κs = placed (c .before .before .before .before .before .before .pre .1) (omega arith)
 
 joined-requires : tie.Need-joined-requires Inv-loop μ-loop
 joined-requires c κs =
@@ -63,11 +76,7 @@ loop-again c =
     )
 
 waiting-requires-3 : tie.Need-waiting-requires-3 Inv-loop μ-loop
-waiting-requires-3 c κs =
-    let start = c .before .before .before .before in
-    let ready = start .pre .1 in
-    let level = ready .wait .level in
-    (omega (arith, level .placed), omega (arith, level .within, ready .enough, ready .few))
+waiting-requires-3 c κs = placed (c .before .before .before .before .pre .1) (omega arith)
 
 joined-requires-2 : tie.Need-joined-requires-2 Inv-loop μ-loop
 joined-requires-2 c κs =
@@ -81,8 +90,7 @@ joined-requires-2 c κs =
 row-above-requires : tie.Need-row-above-requires Inv-loop μ-loop
 row-above-requires c κs =
     let start = c .before .before .before .before .before .before .before .before .before .before .before .before in
-    let level = start .pre .1 .wait .level in
-    (omega (arith, small-total level (omega arith)), omega (arith, low level (omega arith)))
+    doubled (start .pre .1) (start .pre .0)
 
 returns : tie.Need-returns Inv-loop μ-loop
 returns c =
@@ -96,22 +104,14 @@ returns c =
     let size : length (j .last .0) ≡ length (s .nodes) = j .kept .0 in
     let kept = s .inv .1 in
     let forked = rw (right .waiting3 .ensures) at (j .ensures) in
+    let last : a .next + (a .row .count - a .row .count / 2) ≡ suc (a .next + s .i) = omega arith in
     rw (c .row-above .ensures)
-    (record {
-      kept = omega arith;
-      half = refl;
-      done = λ ts b.
-          let p = s .inv .2 ts b in
-          let last : a .next + (a .row .count - a .row .count / 2) ≡ suc (a .next + s .i) = omega arith in
-          rw last (even-ends (b .level) (omega arith) (p .0) (p .1) b (p .2) (omega (arith, b .many)) (omega (arith, start .pre .1 .enough)) forked);
-    })
+    (ended (omega arith) last (λ ts b.
+    let p = s .inv .2 ts b in
+    even-ends (b .level) (omega arith) (p .0) (p .1) b (p .2) (omega (arith, b .many)) (omega (arith, start .pre .1 .enough)) forked))
 
 waiting-requires-4 : tie.Need-waiting-requires-4 Inv-loop μ-loop
-waiting-requires-4 c κs =
-    let start = c .before .before .before .before .before .before .before .before .before in
-    let ready = start .pre .1 in
-    let level = ready .wait .level in
-    (omega (arith, level .placed), omega (arith, level .within, ready .enough, ready .few))
+waiting-requires-4 c κs = placed (c .before .before .before .before .before .before .before .before .before .pre .1) (omega arith)
 
 joined-requires-3 : tie.Need-joined-requires-3 Inv-loop μ-loop
 joined-requires-3 c κs =
@@ -137,8 +137,7 @@ row-above-requires-2 : tie.Need-row-above-requires-2 Inv-loop μ-loop
 row-above-requires-2 c κs =
     let pair = c .before .before .before .before .before .before in
     let start = pair .before .before .before .before .before .before .before .before .before .before .before in
-    let level = start .pre .1 .wait .level in
-    (omega (arith, small-total level (omega arith)), omega (arith, low level (omega arith)))
+    doubled (start .pre .1) (start .pre .0)
 
 returns-2 : tie.Need-returns-2 Inv-loop μ-loop
 returns-2 c =
@@ -157,17 +156,12 @@ returns-2 c =
     let kept = s .inv .1 in
     let some = s .inv .0 in
     let forked = rw (right .waiting3 .ensures, left .waiting4 .ensures) at (j .ensures) in
+    let last : a .next + (a .row .count - a .row .count / 2) ≡ suc (suc (a .next + s .i)) = omega arith in
     rw (c .row-above2 .ensures)
-    (record {
-      kept = omega arith;
-      half = refl;
-      done = λ ts b.
-          let p = s .inv .2 ts b in
-          let last : a .next + (a .row .count - a .row .count / 2) ≡ suc (suc (a .next + s .i)) = omega arith in
-          rw last
-          (odd-ends (b .level) (omega arith) (p .0) (p .1) b (p .2) (omega (arith, b .many)) (omega (arith, start .pre .1 .enough)) forked
-          (rw (add-one (a .next + s .i)) at (k .ensures)));
-    })
+    (ended (omega arith) last (λ ts b.
+    let p = s .inv .2 ts b in
+    odd-ends (b .level) (omega arith) (p .0) (p .1) b (p .2) (omega (arith, b .many)) (omega (arith, start .pre .1 .enough)) forked
+    (rw (add-one (a .next + s .i)) at (k .ensures))))
 
 same-length-2 : tie.Need-same-length-2 Inv-loop μ-loop
 same-length-2 c =
