@@ -13,7 +13,7 @@ mod plot;
 mod windows;
 
 use in_c::{Verdicts, check_in_c};
-use measure::{Progress, Random, middle, timed};
+use measure::{Progress, Random, middle, timed, timed_again};
 use oracle::Vector;
 use plot::{Line, picture};
 use spelunzone::{Order, build, check, run, value_words, values};
@@ -98,8 +98,8 @@ fn orders(start: &Windows, random: &mut Random, progress: &mut Progress) -> [Pai
 }
 
 // The calls, and the longest quiet by itself, each once on a window that was just built of new marks, since what they do depends on the marks. A
-// build by the Rust lets the vector go that it replaces. The values and the longest quiet test the pool too, so that a processor has learned of
-// the check what it can; the check in C is called as often before it is timed.
+// build by the Rust lets the vector go that it replaces. The values and the longest quiet have tested the pool before the check is timed, so both
+// checks are made twice before.
 fn calls(length: usize, sparse: bool, random: &mut Random, progress: &mut Progress) -> [f64; 8] {
     let (mut out, mut answer) = (vec![0; value_words(length)], [0; 2]);
     let mut windows = Windows::built(&vec![0; value_words(length)], length.min(MOST_BUILT));
@@ -118,9 +118,8 @@ fn calls(length: usize, sparse: bool, random: &mut Random, progress: &mut Progre
         let values = timed(|| values(black_box(pool), &mut out));
         let quiet_rust = timed(|| quiet_by_the_rust(black_box(vector)));
         let quiet = timed(|| run(black_box(pool), &Order::LongestQuiet.words(), &mut answer));
-        let check = timed(|| check(black_box(pool)));
-        (0..2).for_each(|_| assert_eq!(check_in_c(black_box(pool)), 0));
-        let check_c = timed(|| check_in_c(black_box(pool)));
+        let check = timed_again(|| check(black_box(&*pool)));
+        let check_c = timed_again(|| check_in_c(black_box(&*pool)));
         assert_eq!(answer, [0, quiet_by_the_rust(vector)]);
         turns.push([quiet, quiet_rust, build, build_rust, values, values_rust, check, check_c]);
         progress.tell(&format!("{length} marks, calls"), turn, TURNS);
@@ -203,7 +202,7 @@ fn print_growth(all: &[Growth]) {
 }
 
 fn lines(row: &Row, beside: &str, all: &[Growth]) -> [Line; 2] {
-    [(row.name.to_string(), 0), (format!("{}, {beside}", row.name), 1)].map(|(name, which)| Line {
+    [(row.name.to_string(), 0), (format!("{}{beside}", row.name), 1)].map(|(name, which)| Line {
         name,
         colour: row.colour,
         dashed: which == 1,
@@ -212,20 +211,21 @@ fn lines(row: &Row, beside: &str, all: &[Growth]) -> [Line; 2] {
 }
 
 fn draw_growth(all: &[Growth]) -> String {
-    let by_the_rust = |rows: &[Row]| rows.iter().flat_map(|row| lines(row, "Rust", all)).collect::<Vec<_>>();
-    let machine = std::env::consts::ARCH;
-    let title = |what: &str| format!("{what}, nanoseconds ({machine}; dashed: not ours)");
-    let calls = by_the_rust(&CALLS).into_iter().chain(lines(&CHECK, "in C", all)).collect();
-    picture(&LENGTHS, &[(title("An order, in lists of 1,000"), by_the_rust(&ORDERS)), (title("A call"), calls)])
+    let by_the_rust = |rows: &[Row]| rows.iter().flat_map(|row| lines(row, ", Rust", all)).collect::<Vec<_>>();
+    let title = |what: &str| format!("{what}: nanoseconds by marks, on {}", std::env::consts::ARCH);
+    let orders = title("An order, in lists of 1,000") + " (dashed: the Rust)";
+    let calls = title("A call") + " (dashed: the Rust, and the check in C)";
+    let of_calls = by_the_rust(&CALLS).into_iter().chain(lines(&CHECK, " in C", all)).collect();
+    picture(&LENGTHS, &[(orders, by_the_rust(&ORDERS)), (calls, of_calls)])
 }
 
 const NOTES: &str = "\
 A pool of 1,023 nodes; the middle of 200 turns, of 50 for the orders that grow. A list's pool is tested once, which is counted in, and so is the
 test that values makes; the Rust has none. It has no longest quiet either: beside it stands values and a scan. Marks are strikes one in two, in the
 row 'sparse', which is the longest quiet too, one in 64. The first table asks it a thousand times of the same marks, which a processor learns in
-part, the second once of new ones. An edit is an insert or a remove, in turn. A frame is an insert and a rank, in one list of two; between the
-turns the marks are taken out again. At 60,000 marks the build is that of 32,768, the most that a build puts into the pool, and the rest was put in
-evenly.";
+part, the second once of new ones. An edit is an insert or a remove, in turn. A frame is an insert and a rank, by ours in one list of two; a turn is
+a thousand frames without a pause, so that the pool stays in the cache, and after it the marks are taken out again. At 60,000 marks the build is
+that of 32,768, the most that a build puts into the pool, and the rest was put in evenly. Both checks are timed the third time on the same pool.";
 
 fn main() {
     let (mut random, mut progress) = (Random(88172645463325252), Progress::new());

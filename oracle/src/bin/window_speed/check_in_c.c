@@ -24,8 +24,15 @@ static inline const uint64_t *node_at(const visited *pool, uint64_t n) {
     return n < pool->nodes ? pool->words + SZ_NODE_WORDS * n : NULL;
 }
 
+/* By hand, since gcc's own calls a function where the processor need not have an instruction for it; where it has one, this is that. */
+static inline uint64_t ones_of(uint64_t word) {
+    word -= word >> 1 & UINT64_C(0x5555555555555555);
+    word = (word & UINT64_C(0x3333333333333333)) + (word >> 2 & UINT64_C(0x3333333333333333));
+    return ((word + (word >> 4)) & UINT64_C(0x0f0f0f0f0f0f0f0f)) * UINT64_C(0x0101010101010101) >> 56;
+}
+
 static inline uint64_t ones_in(const uint64_t *leaf) {
-    return (uint64_t)(__builtin_popcountll(leaf[1]) + __builtin_popcountll(leaf[2]));
+    return ones_of(leaf[1]) + ones_of(leaf[2]);
 }
 
 static inline int leaf_fits(const uint64_t *leaf, uint64_t total, uint64_t ones, uint64_t least) {
@@ -86,6 +93,6 @@ uint64_t check_in_c(const uint64_t *words, size_t count) {
     uint64_t least = words[SZ_NODE_WORDS * root] == FORK;
     if (visit(&pool, root, marks, ones_by_the_edge(&pool, root), least) == WRONG) return SZ_NOT_SOUND;
     uint64_t met = 0;
-    for (int at = 0; at < MET_WORDS; at++) met += (uint64_t)__builtin_popcountll(pool.met[at]);
+    for (int at = 0; at < MET_WORDS; at++) met += ones_of(pool.met[at]);
     return met + free_nodes == pool.nodes && chain_fits(&pool, first_free, free_nodes) ? SZ_DONE : SZ_NOT_SOUND;
 }
