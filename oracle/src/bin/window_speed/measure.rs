@@ -50,6 +50,12 @@ pub fn timed<T>(call: impl FnOnce() -> T) -> f64 {
     time
 }
 
+/// The nanoseconds of a call that has just been made twice, so that a processor has learned of it what it can.
+pub fn timed_again<T>(call: impl Fn() -> T) -> f64 {
+    black_box((call(), call()));
+    timed(call)
+}
+
 pub struct Progress {
     start: Instant,
     last: Instant,

@@ -11,6 +11,8 @@ pub const NODES: usize = 1023;
 pub const ORDERS: usize = 1_000;
 /// The lengths of the lists that ours gets them in.
 pub const LISTS: [usize; 3] = [1, 16, ORDERS];
+/// The orders of a frame, which go into one call.
+const FRAME: usize = 2;
 /// Pairs of an insert and a remove at random places before the first turn, so that leaves have all sizes.
 const AGEING: usize = 50_000;
 /// The most marks that are built; more are put in evenly.
@@ -41,6 +43,30 @@ fn by_the_rust(vector: &mut Vector, order: Order) -> Result<u64, Refusal> {
         Order::Select { k, mark } => vector.select(mark, k as usize).map(|place| place.unwrap() as u64),
         Order::LongestQuiet => Ok(quiet_by_the_rust(vector)),
     }
+}
+
+/// What the Rust answers to some orders, each of which has to be done, and the nanoseconds of them all.
+fn told_by_the_rust(vector: &mut Vector, orders: &[Order]) -> (Vec<u64>, f64) {
+    let mut told = Vec::with_capacity(orders.len());
+    let start = Instant::now();
+    orders.iter().for_each(|order| told.push(by_the_rust(black_box(vector), *order)));
+    let time = start.elapsed().as_nanos() as f64;
+    (told.into_iter().map(|answer| answer.expect("the Rust does every order")).collect(), time)
+}
+
+/// The nanoseconds of serving all these orders by ours, in lists of some length. The answers have to be those that were told.
+fn served(pool: &mut [u64], orders: &[Order], list: usize, told: &[u64]) -> f64 {
+    let words: Vec<u64> = orders.iter().flat_map(|order| order.words()).collect();
+    let mut out = vec![0; 2 * orders.len()];
+    let pool = black_box(pool);
+    let start = Instant::now();
+    for (orders, out) in words.chunks(3 * list).zip(out.chunks_mut(2 * list)) {
+        run(pool, orders, out).expect("the list is served");
+    }
+    let time = start.elapsed().as_nanos() as f64;
+    let answers = answers(&out, orders.len() as u64).map(|answer| answer.expect("an order is done"));
+    assert!(answers.eq(told.iter().copied()), "an answer differs");
+    time
 }
 
 #[derive(Clone)]
@@ -104,29 +130,28 @@ impl Windows {
 
     /// Serves the same orders to all and tells what one took: each order has to be done, and alike by all.
     pub fn serve(&mut self, orders: &[Order]) -> Times {
-        let words: Vec<u64> = orders.iter().flat_map(|order| order.words()).collect();
-        let mut out = vec![0; 2 * orders.len()];
-        let mut told = Vec::with_capacity(orders.len());
-        let mut times = [0.0; LISTS.len() + 1];
-        let start = Instant::now();
-        orders.iter().for_each(|order| told.push(by_the_rust(black_box(&mut self.vector), *order)));
-        times[LISTS.len()] = start.elapsed().as_nanos() as f64 / orders.len() as f64;
-        let told: Vec<u64> = told.into_iter().map(|answer| answer.expect("the Rust does every order")).collect();
+        let (told, rust) = told_by_the_rust(&mut self.vector, orders);
+        let mut times = [rust; LISTS.len() + 1];
         for (which, list) in LISTS.into_iter().enumerate() {
-            let pool = black_box(&mut self.pools[which]);
-            let start = Instant::now();
-            for (orders, out) in words.chunks(3 * list).zip(out.chunks_mut(2 * list)) {
-                run(pool, orders, out).expect("the list is served");
-            }
-            times[which] = start.elapsed().as_nanos() as f64 / orders.len() as f64;
-            assert!(
-                answers(&out, orders.len() as u64)
-                    .map(|answer| answer.expect("an order is done"))
-                    .eq(told.iter().copied()),
-                "an answer differs"
-            );
+            times[which] = served(&mut self.pools[which], orders, list, &told);
         }
-        times
+        times.map(|time| time / orders.len() as f64)
+    }
+
+    /// Serves frames, each an insert and a rank in one call, and tells what a frame took, ours and the Rust's. The marks are taken out again.
+    pub fn serve_frames(&mut self, random: &mut Random) -> [f64; 2] {
+        let frames: Vec<Order> = self
+            .inserts(random)
+            .into_iter()
+            .zip(self.ranks(random))
+            .flat_map(|(insert, rank)| [insert, rank])
+            .collect();
+        let (told, rust) = told_by_the_rust(&mut self.vector, &frames);
+        let ours = served(&mut self.pools[0], &frames, FRAME, &told);
+        let removes = self.removes(random);
+        let (told, _) = told_by_the_rust(&mut self.vector, &removes);
+        served(&mut self.pools[0], &removes, ORDERS, &told);
+        [ours, rust].map(|time| time / ORDERS as f64)
     }
 
     fn drawn(&self, random: &mut Random, order: impl Fn(&mut Random, u64) -> Order) -> Vec<Order> {
