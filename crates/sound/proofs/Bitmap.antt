@@ -146,10 +146,12 @@ module _ (met : List ℕ) (n : ℕ) (here : n / 64 < length met) where
       (λ ne. inr (sym (other-word k ne) ∙ e))
 
   -- a bit that was clear is set now, and no other
-  pub meet-yes : (bit : ℕ) → bit ≡ 2 ^ (n % 64) → word / 2 ^ (n % 64) % 2 ≡ 0 → Meets met (set met (n / 64) (bitOr word bit)) n true
-  meet-yes bit one clear =
+  pub meet-yes : {room : ℕ} → 1 < room → (bit : ℕ) → bit ≡ 2 ^ (n % 64) → word / 2 ^ (n % 64) % 2 ≡ 0
+      → Meets met (set met (n / 64) (bitOr word bit)) n room true
+  meet-yes some bit one clear =
       rw one record {
         yes = λ _. (
+          some,
           record {
             distinct = (List·Memᴰ·not-nil, tt);
             room = λ k h. rw (List·Memᴰ·eq-of-singleton h) (omega arith);
@@ -162,17 +164,21 @@ module _ (met : List ℕ) (n : ℕ) (here : n / 64 < length met) where
             only = λ k e. ⊎-elim (λ same. inl (List·Memᴰ·head same)) inr (mark-only k e);
           },
         );
-        no = λ _. refl;
+        no = λ _ _. refl;
       }
 
   -- a bit that was set
-  pub meet-no : (met′ : List ℕ) → (word / 2 ^ (n % 64) % 2 ≡ 0 → ⊥) → Meets met met′ n false
+  pub meet-no : {room : ℕ} (met′ : List ℕ) → (word / 2 ^ (n % 64) % 2 ≡ 0 → ⊥) → Meets met met′ n room false
   meet-no met′ set =
       record {
         yes = λ e. never e refl;
-        no = λ f. absurd (set (even-says _ (sym (met-word n refl) ∙ f .unmet n (List·Memᴰ·head refl))));
+        no = λ _ f. absurd (set (even-says _ (sym (met-word n refl) ∙ f .unmet n (List·Memᴰ·head refl))));
       }
 
 -- there is no such bit
-pub meet-out : (met met′ : List ℕ) (n : ℕ) → length met ≤ n / 64 → Meets met met′ n false
-meet-out met met′ n h = record { yes = λ e. never e refl; no = λ f. absurd (omega (arith, f .room n (List·Memᴰ·head refl))) }
+pub meet-out : {room : ℕ} (met met′ : List ℕ) (n : ℕ) → length met ≤ n / 64 → Meets met met′ n room false
+meet-out met met′ n h = record { yes = λ e. never e refl; no = λ _ f. absurd (omega (arith, f .room n (List·Memᴰ·head refl))) }
+
+-- there is no room
+pub meet-full : {room : ℕ} (met met′ : List ℕ) (n : ℕ) → room ≤ 1 → Meets met met′ n room false
+meet-full met met′ n h = record { yes = λ e. never e refl; no = λ some _. absurd (omega arith) }

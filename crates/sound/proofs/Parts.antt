@@ -239,13 +239,9 @@ module _ {w : List ℕ} {least : ℕ} {met : List ℕ} {n total strikes levels r
       → Visited w least met n total strikes levels room met′ 0
   refused out = record { yes = λ e. absurd (omega arith); no = λ t p f l. absurd (out t p f l) }
 
-  -- there is no room
-  pub visited-none : {met′ : List ℕ} → room ≤ 1 → Visited w least met n total strikes levels room met′ 0
-  visited-none h = refused (λ t p f l. omega (arith, some-node t))
-
-  -- the node was met before
-  pub visited-met : {met′ : List ℕ} {b : Bool} → Meets met met′ n b → b ≡ false → Visited w least met n total strikes levels room met′ 0
-  visited-met m e = refused (λ t p f l. never (m .no (rw (p .at) at (top-fresh t f))) e)
+  -- there is no room for the node, or it was met before
+  pub visited-met : {met′ : List ℕ} {b : Bool} → Meets met met′ n room b → b ≡ false → Visited w least met n total strikes levels room met′ 0
+  visited-met m e = refused (λ t p f l. never (m .no (omega (arith, some-node t)) (rw (p .at) at (top-fresh t f))) e)
 
   -- it is free, or no node at all
   pub visited-free : {met′ : List ℕ} (k : ℕ) → node-at w n ≡ free k → Visited w least met n total strikes levels room met′ 0

@@ -29,7 +29,7 @@ pub record Marked (met met′ ks : List ℕ) : Type 0 where
   pub kept : (k : ℕ) → met-at met k ≡ true → met-at met′ k ≡ true
   pub only : (k : ℕ) → met-at met′ k ≡ true → List·Memᴰ k ks ⊎ (met-at met k ≡ true)
 
--- what it says that node n is met now
-pub record Meets (met met′ : List ℕ) (n : ℕ) (r : Bool) : Type 0 where
-  pub yes : r ≡ true → Fresh met (n ∷ []) × Marked met met′ (n ∷ [])
-  pub no : Fresh met (n ∷ []) → r ≡ true
+-- what it says that node n is met now, where fewer nodes than so many may be
+pub record Meets (met met′ : List ℕ) (n room : ℕ) (r : Bool) : Type 0 where
+  pub yes : r ≡ true → (1 < room) × Fresh met (n ∷ []) × Marked met met′ (n ∷ [])
+  pub no : 1 < room → Fresh met (n ∷ []) → r ≡ true

@@ -2,10 +2,14 @@
 use bits::WORD_BITS;
 ghost use Rattle.sound.specs.Met.{Meets};
 
-// Marks node n as met, and says whether it was not before. A number for which there is no bit counts as met.
-pub fn meet(met: &mut [u64], n: u64) -> bool
-    ensures { λ r. ⌜ Meets (now (met .entry)) (now (met .exit)) n r ⌝ }
+// Marks node n as met, where there is room for fewer than so many and it has not been met, and says whether that was
+// so. A number for which there is no bit counts as met.
+pub fn meet(met: &mut [u64], n: u64, room: u64) -> bool
+    ensures { λ r. ⌜ Meets (now (met .entry)) (now (met .exit)) n room r ⌝ }
 {
+    if room < 2 {
+        return false;
+    }
     let at = (n / WORD_BITS) as usize;
     if at < met.len() {
         let word = met[at];

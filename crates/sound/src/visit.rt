@@ -9,7 +9,7 @@ use pool::LEAF_LEAST;
 use pool::Node;
 use pool::node_at;
 ghost use mathlib.Core.Path.{_≡_};
-ghost use Prim.Native.Nat.{_-_, _≤_, max};
+ghost use Prim.Native.Nat.{_-_, _<_, _≤_, max};
 ghost use Rattle.model.specs.Says.{Says};
 ghost use Rattle.sound.specs.Part.{Agrees, Filled, Visited, most-levels};
 
@@ -72,8 +72,40 @@ pub fn below(levels: u64, lean: u64) -> u64
     levels - 1
 }
 
+// Visits the leaf at n as `visit` does a subtree. It stands where a tree of at most one level is claimed.
+fn visit_leaf(
+    nodes: &[u64],
+    met: &mut [u64],
+    n: u64,
+    total: u64,
+    ones: u64,
+    least: u64,
+    levels: u64,
+    room: u64,
+) -> u64
+    requires { ⌜ levels < 2 ⌝ }
+    ensures { λ r. ⌜ Visited (now (nodes .entry)) least (now (met .entry)) n total ones levels room
+        (now (met .exit)) r ⌝ }
+{
+    if !meet(met, n, room) {
+        return 0;
+    }
+    match node_at(nodes, n) {
+        Node::Leaf(leaf) => {
+            if leaf_fits(leaf, total, ones, least, levels) {
+                return room - 1;
+            }
+            0
+        }
+        Node::Fork(_) => 0,
+        Node::Free(_) => 0,
+        Node::Broken => 0,
+    }
+}
+
 // Visits the subtree at `root`, of which all this is claimed, its last leaf of at least `least` marks. It has fewer
-// than `most` nodes; what is left of that is handed back, and 0 where no such tree stands there.
+// than `most` nodes; what is left of that is handed back, and 0 where no such tree stands there. A leaf is no call of
+// its own: where one level is claimed it is visited in place.
 pub fn visit(
     nodes: &[u64],
     met: &mut [u64],
@@ -93,8 +125,8 @@ pub fn visit(
     let mut ones = strikes;
     let mut levels = depth;
     let mut room = most;
-    while room > 1 {
-        if !meet(met, n) {
+    while levels > 1 {
+        if !meet(met, n, room) {
             return 0;
         }
         match node_at(nodes, n) {
@@ -104,30 +136,38 @@ pub fn visit(
                 }
                 let left = below(levels, fork.balance - 1);
                 let right = below(levels, MOST_BALANCE - fork.balance);
-                room = visit(
-                    nodes,
-                    met,
-                    fork.left,
-                    fork.left_total,
-                    fork.left_ones,
-                    LEAF_LEAST,
-                    left,
-                    room - 1,
-                );
+                if left < 2 {
+                    room = visit_leaf(
+                        nodes,
+                        met,
+                        fork.left,
+                        fork.left_total,
+                        fork.left_ones,
+                        LEAF_LEAST,
+                        left,
+                        room - 1,
+                    );
+                } else {
+                    room = visit(
+                        nodes,
+                        met,
+                        fork.left,
+                        fork.left_total,
+                        fork.left_ones,
+                        LEAF_LEAST,
+                        left,
+                        room - 1,
+                    );
+                }
                 n = fork.right;
                 total -= fork.left_total;
                 ones -= fork.left_ones;
                 levels = right;
             }
-            Node::Leaf(leaf) => {
-                if leaf_fits(leaf, total, ones, least, levels) {
-                    return room - 1;
-                }
-                return 0;
-            }
+            Node::Leaf(_) => return 0,
             Node::Free(_) => return 0,
             Node::Broken => return 0,
         }
     }
-    0
+    visit_leaf(nodes, met, n, total, ones, least, levels, room)
 }

@@ -1,6 +1,6 @@
--- A visit of the subtree at a number: its node is met and read. A fork's left child is visited and the loop goes on with its right child, so that
--- what is answered from there on is what is answered from the start. Assumes nothing.
-use Prim.Native.Nat.{ℕ, _<_}
+-- A visit of the subtree at a number: while more than one level is claimed its node is met and read, its left child is visited and the loop goes on
+-- with its right child, so that what is answered from there on is what is answered from the start; in the end a leaf is visited. Assumes nothing.
+use Prim.Native.Nat.{ℕ, _-_, _<_}
 use native.Mathlib.Omega.{arith}
 use mathlib.Core.Path.{_≡_, sym, _∙_}
 use mathlib.Core.List.{[], _∷_}
@@ -8,13 +8,14 @@ use borrow.Author.Needs.{needs}
 use borrow.Author.Tests.{not-true, not-false}
 use denote.Ref.{now}
 use lib.ListN.{length}
-use Rattle.model.specs.Says.{Says}
+use mathlib.Core.Logic.{⊎-elim}
+use Rattle.model.specs.Edit.{leaf-least}
 use Rattle.pool.specs.Node.{node-at}
 use Rattle.pool.specs.declared.node.Node.the-variants.{Leaf as leaf, Fork as fork}
 use Rattle.sound.specs.Met.{Fresh, Marked}
-use Rattle.sound.specs.Part.{Agrees, Filled}
+use Rattle.sound.specs.Part.{Agrees, Visited}
 use Rattle.sound.proofs.Answers.{never}
-use Rattle.sound.proofs.Parts.{Onward, onward-none, onward-more, visited-broken, visited-free, visited-leaf, visited-met, visited-none, visited-unfit, visited-untrue}
+use Rattle.sound.proofs.Parts.{Onward, onward-none, onward-more, visited-broken, visited-free, visited-met, visited-unfit, visited-untrue}
 use borrow.Fn.Kinds.{In}
 use borrow.Fn.PlainCycle.{Measures, is, falls, and}
 use Rattle.sound.proofs.visit.visit.Reads as visit
@@ -24,7 +25,7 @@ use Rattle.pool.proofs.node_at.Reads as node-at-reads
 use Rattle.sound.proofs.met.meet.Reads as meet-reads
 use Rattle.sound.proofs.visit.below.Reads as below-reads
 use Rattle.sound.proofs.visit.fork_fits.Reads as fork-fits-reads
-use Rattle.sound.proofs.visit.leaf_fits.Reads as leaf-fits-reads
+use Rattle.sound.proofs.visit.visit_leaf.Reads as visit-leaf-reads
 use Rattle.sound.proofs.visit.+visit.{statement}
 use Rattle.sound.proofs.visit.+visit.Tie.{close}
 
@@ -49,10 +50,10 @@ claims t = (
   fork-fits-reads.Learnt,
   below-reads.Asked,
   below-reads.Learnt,
+  visit-leaf-reads.Asked,
+  visit-leaf-reads.Learnt,
   visit-below t,
   visit.Post,
-  leaf-fits-reads.Asked,
-  leaf-fits-reads.Learnt,
 )
 
 -- how far the loop has come
@@ -80,15 +81,10 @@ abbrev meets : (t : ℕ) → visit-lts.Else1 (claims t) (visit-at t) visit.Post 
 meets t c = c .before .before .before
 
 met-now : (t : ℕ) (c : visit-lts.Else1 (claims t) (visit-at t) visit.Post Inv-loop μ-loop) → let l = pass t (meets t c) .before .loop in
-    Fresh (l .met) (l .n ∷ []) × Marked (l .met) (meets t c .meet .last .0) (l .n ∷ [])
+    (1 < l .room) × Fresh (l .met) (l .n ∷ []) × Marked (l .met) (meets t c .meet .last .0) (l .n ∷ [])
 met-now t c = meets t c .meet .ensures .yes (not-false _ (c .if1 .left))
 
 -- what was read there
-leaf-there : (t : ℕ) (c : visit-lts.After-leaf (claims t) (visit-at t) visit.Post Inv-loop μ-loop)
-    → let l = pass t (meets t (c .before .before .before)) .before in
-    node-at (now (l .before .before .before .args .nodes)) (l .loop .n) ≡ leaf (c .leaf .given .0 .0)
-leaf-there t c = sym (c .before .before .node-at .ensures) ∙ c .leaf .given .1
-
 fork-there : (t : ℕ) (c : visit-lts.After-fork (claims t) (visit-at t) visit.Post Inv-loop μ-loop)
     → let l = pass t (meets t (c .before .before .before)) .before in
     node-at (now (l .before .before .before .args .nodes)) (l .loop .n) ≡ fork (c .fork .given .0 .0)
@@ -100,12 +96,21 @@ agrees : (t : ℕ) (c : visit-lts.Else2 (claims t) (visit-at t) visit.Post Inv-l
     Agrees (there .fork .given .0 .0) (l .total) (l .ones) (l .levels)
 agrees t c = c .before .fork-fits .ensures .yes (not-false _ (c .if2 .left))
 
--- what it says that a leaf fits
-leaf-says : (t : ℕ) (c : visit-lts.After-leaf-fits (claims t) (visit-at t) visit.Post Inv-loop μ-loop)
-    → let there = c .before .before in let l = pass t (meets t (there .before .before .before)) .before in
-    Says (Filled (there .leaf .given .0 .0) (l .loop .total) (l .loop .ones) (l .before .before .before .args .least) (l .loop .levels))
-    (c .leaf-fits .result)
-leaf-says t c = c .leaf-fits .ensures
+-- what was answered of its left child, a leaf or not
+child : (t : ℕ) (c : visit-lts.Joined3 (claims t) (visit-at t) visit.Post Inv-loop μ-loop)
+    → let first = c .before .before .before in
+    let there = first .before .before .before .before .before in
+    let m = meets t (there .before .before .before) in
+    let l = pass t m .before in
+    let f = there .fork .given .0 .0 in
+    (length (c .if3 .met) ≡ length (m .meet .last .0))
+    × Visited (now (l .before .before .before .args .nodes)) leaf-least (m .meet .last .0) (f .left) (f .«left_total») (f .«left_ones»)
+    (first .below .result) (l .loop .room - 1) (c .if3 .met) (c .if3 .room)
+child t c =
+    ⊎-elim
+    (λ p. rw (p .5, p .6) (p .2 .kept .1 .0, p .2 .ensures))
+    (λ p. rw (p .5, p .6) (p .2 .kept .1 .0, p .2 .ensures))
+    (c .if3 .came)
 
 -- ---- each need
 
@@ -142,9 +147,20 @@ sub-below-2 t c = let a = agrees t (c .before .before .before) in omega (arith, 
 below-requires-2 : (t : ℕ) → visit-lts.Need-below-requires-2 (claims t) (visit-at t) visit.Post Inv-loop μ-loop
 below-requires-2 t c κs = let a = agrees t (c .before .before .before) in (a .high, omega (arith, a .leans, a .even))
 
+-- there was room for the fork
+room-there : (t : ℕ) (c : visit-lts.After-below2 (claims t) (visit-at t) visit.Post Inv-loop μ-loop)
+    → 1 < pass t (meets t (c .before .before .before .before .before .before .before .before .before .before)) .before .loop .room
+room-there t c = met-now t (c .before .before .before .before .before .before .before .before .before .before) .0
+
+sub-visit-leaf : (t : ℕ) → visit-lts.Need-sub-visit-leaf (claims t) (visit-at t) visit.Post Inv-loop μ-loop
+sub-visit-leaf t c = omega (arith, room-there t (c .before .before))
+
+sub-visit : (t : ℕ) → visit-lts.Need-sub-visit (claims t) (visit-at t) visit.Post Inv-loop μ-loop
+sub-visit t c = omega (arith, room-there t (c .before .before))
+
 visit-requires : (t : ℕ) → visit-lts.Need-visit-requires (claims t) (visit-at t) visit.Post Inv-loop μ-loop
 visit-requires t c κs =
-    let first = c .before .before .before in
+    let first = c .before .before .before .before in
     let told = first .before .before in
     let l = pass t (meets t (told .before .before .before .before .before .before)) .before in
     let left = first .below .ensures in
@@ -154,48 +170,48 @@ visit-requires t c κs =
     (omega (arith, start .pre), omega (arith, start .pre))
 
 sub-total : (t : ℕ) → visit-lts.Need-sub-total (claims t) (visit-at t) visit.Post Inv-loop μ-loop
-sub-total t c = let a = agrees t (c .before .before .before .before .before .before .before .before .before) in omega (arith, a .marks)
+sub-total t c = let a = agrees t (c .before .before .before .before .before .before) in omega (arith, a .marks)
 
 sub-ones : (t : ℕ) → visit-lts.Need-sub-ones (claims t) (visit-at t) visit.Post Inv-loop μ-loop
-sub-ones t c = let a = agrees t (c .before .before .before .before .before .before .before .before .before .before) in omega (arith, a .ones)
+sub-ones t c = let a = agrees t (c .before .before .before .before .before .before .before) in omega (arith, a .ones)
 
 loop-less : (t : ℕ) → visit-lts.Need-loop-less (claims t) (visit-at t) visit.Post Inv-loop μ-loop
 loop-less t c =
-    let second = c .before .before .before .before .before .before in
+    let second = c .before .before .before in
     omega (arith, second .below2 .ensures, agrees t (second .before .before .before .before) .high)
 
 loop-again : (t : ℕ) → visit-lts.Need-loop-again (claims t) (visit-at t) visit.Post Inv-loop μ-loop
 loop-again t c =
-    let child = c .before .before .before .before in
-    let second = child .before .before in
+    let joined = c .before .before in
+    let second = joined .before in
     let first = second .before .before in
     let told = first .before .before in
     let there = told .before .before .before in
     let m = met-now t (there .before .before .before) in
     let p = pass t (meets t (there .before .before .before)) in
-    onward-more (p .before .loop .inv) (omega (arith, p .loop-test)) (m .0) (m .1) (there .fork .given .0 .0) (fork-there t there) (agrees t told)
-    (omega (arith, first .below .ensures)) (omega (arith, second .below2 .ensures)) (child .visit .kept .1 .0) (child .visit .ensures)
+    let v = child t joined in
+    onward-more (p .before .loop .inv) (m .0) (m .1) (m .2) (there .fork .given .0 .0) (fork-there t there) (agrees t told)
+    (omega (arith, first .below .ensures)) (omega (arith, second .below2 .ensures)) (v .0) (v .1)
 
 same-length-3 : (t : ℕ) → visit-lts.Need-same-length-3 (claims t) (visit-at t) visit.Post Inv-loop μ-loop
-same-length-3 t c = kept t (meets t (c .before .before .before .before .before .before))
+same-length-3 t c = kept t (meets t (c .before .before .before))
 
 returns-3 : (t : ℕ) → visit-lts.Need-returns-3 (claims t) (visit-at t) visit.Post Inv-loop μ-loop
 returns-3 t c =
-    let there = c .before .before .before in
-    let m = met-now t (there .before .before .before) in
-    let p = pass t (meets t (there .before .before .before)) in
-    p .before .loop .inv .on _ _
-    (visited-leaf (omega (arith, p .loop-test)) (m .0) (m .1) (there .leaf .given .0 .0) (leaf-there t there)
-    (leaf-says t (c .before) .yes (c .if3 .taken)))
+    let read = c .before .before in
+    let in-loop = pass t (meets t (read .before)) in
+    in-loop .before .loop .inv .on _ _
+    (visited-unfit (c .enum-told .given .0 .0) (sym (read .node-at .ensures) ∙ c .enum-told .given .1)
+    (λ f. omega (arith, f .low, in-loop .loop-test)))
 
 same-length-4 : (t : ℕ) → visit-lts.Need-same-length-4 (claims t) (visit-at t) visit.Post Inv-loop μ-loop
-same-length-4 t c = kept t (meets t (c .before .before .before .before .before .before))
+same-length-4 t c = kept t (meets t (c .before .before .before))
 
 returns-4 : (t : ℕ) → visit-lts.Need-returns-4 (claims t) (visit-at t) visit.Post Inv-loop μ-loop
 returns-4 t c =
-    let there = c .before .before .before in
-    pass t (meets t (there .before .before .before)) .before .loop .inv .on _ _
-    (visited-unfit (there .leaf .given .0 .0) (leaf-there t there) (λ f. never (leaf-says t (c .before) .no f) (c .if3 .left)))
+    let read = c .before .before in
+    pass t (meets t (read .before)) .before .loop .inv .on _ _
+    (visited-free (c .enum-told2 .given .0 .0) (sym (read .node-at .ensures) ∙ c .enum-told2 .given .1))
 
 same-length-5 : (t : ℕ) → visit-lts.Need-same-length-5 (claims t) (visit-at t) visit.Post Inv-loop μ-loop
 same-length-5 t c = kept t (meets t (c .before .before .before))
@@ -204,21 +220,20 @@ returns-5 : (t : ℕ) → visit-lts.Need-returns-5 (claims t) (visit-at t) visit
 returns-5 t c =
     let read = c .before .before in
     pass t (meets t (read .before)) .before .loop .inv .on _ _
-    (visited-free (c .enum-told .given .0 .0) (sym (read .node-at .ensures) ∙ c .enum-told .given .1))
+    (visited-broken (sym (read .node-at .ensures) ∙ c .enum-told3 .given .1))
+
+visit-leaf-requires-2 : (t : ℕ) → visit-lts.Need-visit-leaf-requires-2 (claims t) (visit-at t) visit.Post Inv-loop μ-loop
+visit-leaf-requires-2 t c κs = omega (arith, c .before .loop-test)
 
 same-length-6 : (t : ℕ) → visit-lts.Need-same-length-6 (claims t) (visit-at t) visit.Post Inv-loop μ-loop
-same-length-6 t c = kept t (meets t (c .before .before .before))
+same-length-6 t c =
+    let last = c .before .before in
+    last .visit-leaf2 .kept .1 .0 ∙ last .before .before .before .loop .inv .size
 
 returns-6 : (t : ℕ) → visit-lts.Need-returns-6 (claims t) (visit-at t) visit.Post Inv-loop μ-loop
 returns-6 t c =
-    let read = c .before .before in
-    pass t (meets t (read .before)) .before .loop .inv .on _ _ (visited-broken (sym (read .node-at .ensures) ∙ c .enum-told2 .given .1))
-
-same-length-7 : (t : ℕ) → visit-lts.Need-same-length-7 (claims t) (visit-at t) visit.Post Inv-loop μ-loop
-same-length-7 t c = c .before .loop .inv .size
-
-returns-7 : (t : ℕ) → visit-lts.Need-returns-7 (claims t) (visit-at t) visit.Post Inv-loop μ-loop
-returns-7 t c = c .before .loop .inv .on _ _ (visited-none (omega (arith, c .loop-test)))
+    let last = c .before .before in
+    last .before .before .before .loop .inv .on _ _ (last .visit-leaf2 .ensures)
 
 pub +visit-spec : {M : Type 1} → statement M
 +visit-spec = close μ-visit λ t. visit-lts.spec (claims t)
@@ -239,24 +254,23 @@ pub +visit-spec : {M : Type 1} → statement M
     (below-requires t)
     (sub-below-2 t)
     (below-requires-2 t)
-    (λ c. omega arith)
+    (sub-visit-leaf t)
+    (λ c κs. omega arith)
+    (sub-visit t)
     (visit-requires t)
     (sub-total t)
     (sub-ones t)
     (loop-less t)
     (loop-again t)
     (λ c. search needs)
-    (λ c κs. search needs)
-    (λ c. omega arith)
     (same-length-3 t)
     (returns-3 t)
+    (λ c. search needs)
     (same-length-4 t)
     (returns-4 t)
     (λ c. search needs)
     (same-length-5 t)
     (returns-5 t)
-    (λ c. search needs)
+    (visit-leaf-requires-2 t)
     (same-length-6 t)
     (returns-6 t)
-    (same-length-7 t)
-    (returns-7 t)
