@@ -8,15 +8,28 @@
 #include <stdlib.h>
 #include <sys/mman.h>
 #include <ucontext.h>
+#include <unistd.h>
 
 #define MOST_BLOCKS 4096
+
+/* What a breakpoint is, where the processor says that it met one, and how far behind it that is. */
+#if defined(__x86_64__)
+typedef uint8_t code;
 #define BREAKPOINT 0xcc
-#define PAGE 4096
+#define AT(context) (context)->uc_mcontext.gregs[REG_RIP]
+#define BEHIND 1
+#elif defined(__aarch64__)
+typedef uint32_t code;
+#define BREAKPOINT 0xd4200000
+#define AT(context) (context)->uc_mcontext.pc
+#define BEHIND 0
+#endif
 
 __attribute__((section("__libfuzzer_extra_counters"))) static uint8_t reached[MOST_BLOCKS];
 
 static uintptr_t blocks[MOST_BLOCKS];
-static uint8_t instruction[MOST_BLOCKS], ever[MOST_BLOCKS];
+static code instruction[MOST_BLOCKS];
+static uint8_t ever[MOST_BLOCKS];
 static size_t count;
 
 static size_t block_at(uintptr_t address) {
@@ -31,16 +44,20 @@ static size_t block_at(uintptr_t address) {
     return low;
 }
 
+static void put(uintptr_t address, code word) {
+    *(volatile code *)address = word;
+    __builtin___clear_cache((char *)address, (char *)address + sizeof word);
+}
+
 static void trapped(int signal, siginfo_t *info, void *context) {
     (void)signal, (void)info;
-    greg_t *instruction_at = &((ucontext_t *)context)->uc_mcontext.gregs[REG_RIP];
-    uintptr_t address = (uintptr_t)*instruction_at - 1;
+    uintptr_t address = (uintptr_t)AT((ucontext_t *)context) - BEHIND;
     size_t block = block_at(address);
     if (block >= count || blocks[block] != address)
         abort();
-    *(volatile uint8_t *)address = instruction[block];
+    put(address, instruction[block]);
     reached[block] = ever[block] = 1;
-    *instruction_at = (greg_t)address;
+    AT((ucontext_t *)context) -= BEHIND;
 }
 
 static void told(void) {
@@ -64,14 +81,14 @@ void blocks_watched(void) {
     fclose(file);
     if (count == 0 || count == MOST_BLOCKS)
         abort();
-    uintptr_t first = blocks[0] / PAGE * PAGE, end = (blocks[count - 1] / PAGE + 1) * PAGE;
+    uintptr_t page = (uintptr_t)sysconf(_SC_PAGESIZE), first = blocks[0] / page * page, end = (blocks[count - 1] / page + 1) * page;
     if (mprotect((void *)first, end - first, PROT_READ | PROT_WRITE | PROT_EXEC) != 0)
         abort();
     struct sigaction action = {.sa_sigaction = trapped, .sa_flags = SA_SIGINFO | SA_NODEFER};
     sigaction(SIGTRAP, &action, NULL);
     for (size_t i = 0; i < count; i++) {
-        instruction[i] = *(uint8_t *)blocks[i];
-        *(volatile uint8_t *)blocks[i] = BREAKPOINT;
+        instruction[i] = *(code *)blocks[i];
+        put(blocks[i], BREAKPOINT);
     }
     atexit(told);
 }
