@@ -1,6 +1,9 @@
 -- Every public contract determines its result: two results that it allows for the same arguments are equal.
+use mathlib.Core.Path.{sym, _∙_}
 use Rattle.model.specs.Contract.{Pinned}
+use Rattle.model.proofs.Cases.{by-test}
 use Rattle.model.proofs.Contracts.{one-value}
+use Rattle.bits.proofs.choice.either.Reads as either
 use Rattle.bits.proofs.leaf.Leaf.insert.Reads as insert
 use Rattle.bits.proofs.leaf.Leaf.remove.Reads as remove
 use Rattle.bits.proofs.leaf.Leaf.join.Reads as join
@@ -33,3 +36,6 @@ ones32-pinned = one-value (λ κs a r w e. e)
 
 pub ones64-pinned : Pinned ones64.Post
 ones64-pinned = one-value (λ κs a r w e. e)
+
+pub either-pinned : Pinned either.Post
+either-pinned κs a r r′ w w′ p q = by-test (a .0) (λ t. p .one t ∙ sym (q .one t)) (λ t. p .other t ∙ sym (q .other t))

@@ -1,6 +1,6 @@
 -- A leaf's 128 bits are its low word's 64 and then its high word's 64. Each edit of the list falls apart into edits of the words;
 -- what moves from one word to the other is one bit, or the top of a word.
-use Prim.Native.Nat.{ℕ, suc, _+_, _-_, _/_, _^_, _≤_, _<_, min}
+use Prim.Native.Nat.{ℕ, suc, _+_, _-_, _/_, _%_, _^_, _≤_, _<_, min}
 use native.Mathlib.Numerals.{add-one}
 use native.Mathlib.Omega.{arith}
 use mathlib.Core.Path.{_≡_, refl, sym, ap, ap₂, _∙_}
@@ -11,9 +11,11 @@ use lib.Pow.{shr-shr}
 use lib.Seq.{length-take-le, take-append-le, take-append-add, take-all, drop-at, take-at, getD-append-add}
 use Rattle.model.specs.Marks.{access, insert, ones, rank, count, remove, wanted}
 use Rattle.model.specs.Word.{odd, bits, number}
+use Rattle.model.proofs.Cases.{by-test}
 use Rattle.model.proofs.Counting.{count-both, ones-append, ones-le}
 use Rattle.model.proofs.MarksEdits.{insert-first, insert-past, remove-first, remove-past, length-insert, length-remove}
 use Rattle.model.proofs.Words.{bits-add, bits-at, bits-length, take-bits}
+use Rattle.bits.specs.Choice.{Picked}
 use Rattle.bits.specs.Leaf.{packed, leaf-of, halves-of}
 use Rattle.bits.specs.declared.leaf.Leaf.{Leaf}
 use Rattle.bits.specs.declared.leaf.Halves.{Halves}
@@ -70,6 +72,20 @@ module _ (self : Leaf) where
   past-edit h l xs rest e =
       high-edit h xs (bits 64 b ++ rest) (e ∙ append-assoc (bits 64 a) (bits 64 b) rest)
       (sym (packed-enough (bits 64 b) rest (omega (arith, bits-length 64 b)) ∙ packed-own b l))
+
+  -- ---- an edit at a place of the leaf
+
+  -- It edits the word that the place is in. Where that is the low one, another word stands above it afterwards.
+  pub edit-chosen : (edit : Bool → ℕ → ℕ → ℕ) {i word put above low high : ℕ} {first : Bool} {r : Leaf} → i < 128
+      → (first ≡ true → i < 64) → (first ≡ false → 64 ≤ i) → Picked first a b word → put ≡ edit first word (i % 64)
+      → Picked first put a low → Picked first above put high
+      → (i < 64 → _≡_ {A = Leaf} (record { low = edit true a i; high = above }) r)
+      → (64 ≤ i → _≡_ {A = Leaf} (record { low = a; high = edit false b (i - 64) }) r)
+      → _≡_ {A = Leaf} (record { low = low; high = high }) r
+  edit-chosen edit {i} {first = first} h passed failed w e l m in-low in-high =
+      by-test first
+      (λ t. let k : i % 64 ≡ i = omega (arith, passed t) in rw (l .one t, m .one t, e, w .one t, t, k) (in-low (passed t)))
+      (λ t. let k : i % 64 ≡ i - 64 = omega (arith, failed t) in rw (l .other t, m .other t, e, w .other t, t, k) (in-high (failed t)))
 
   -- ---- insert
 

@@ -4,6 +4,7 @@
 use crate::BLOCK_BITS;
 use crate::TOP_BIT;
 use crate::WORD_BITS;
+use crate::choice::either;
 use crate::count::ones64;
 ghost use mathlib.Core.Bool.{true};
 ghost use mathlib.Core.List.{[], _++_, _∷_};
@@ -25,21 +26,20 @@ pub struct Halves {
 }
 
 impl Leaf {
-    // The leaf with a mark put in at a place. The marks from there on move up by one; a bit 127 is lost.
+    // The leaf with a mark put in at a place. The marks from there on move up by one; a bit 127 is lost. The word that
+    // the place is in is chosen, here and in `remove`, without a jump.
     pub fn insert(self, at: u64, bit: bool) -> Leaf
         ensures { λ r. ⌜ r ≡ leaf-of (inserted at bit (bits-of self)) ⌝ }
     {
-        if at < WORD_BITS {
-            let over = (self.low >> TOP_BIT) % 2 == 1;
-            return Leaf {
-                low: word_insert(self.low, at, bit),
-                high: word_insert(self.high, 0, over),
-            };
-        }
         if at < BLOCK_BITS {
+            let first = at < WORD_BITS;
+            let word = either(first, self.low, self.high);
+            let put = word_insert(word, at % WORD_BITS, bit);
+            let over = (self.low >> TOP_BIT) % 2 == 1;
+            let above = word_insert(self.high, 0, over);
             return Leaf {
-                low: self.low,
-                high: word_insert(self.high, at - WORD_BITS, bit),
+                low: either(first, put, self.low),
+                high: either(first, above, put),
             };
         }
         self
@@ -49,17 +49,15 @@ impl Leaf {
     pub fn remove(self, at: u64) -> Leaf
         ensures { λ r. ⌜ r ≡ leaf-of (removed at (bits-of self)) ⌝ }
     {
-        if at < WORD_BITS {
-            let next = self.high % 2 == 1;
-            return Leaf {
-                low: word_remove(self.low, at, next),
-                high: word_remove(self.high, 0, false),
-            };
-        }
         if at < BLOCK_BITS {
+            let first = at < WORD_BITS;
+            let word = either(first, self.low, self.high);
+            let next = first & (self.high % 2 == 1);
+            let kept = word_remove(word, at % WORD_BITS, next);
+            let above = word_remove(self.high, 0, false);
             return Leaf {
-                low: self.low,
-                high: word_remove(self.high, at - WORD_BITS, false),
+                low: either(first, kept, self.low),
+                high: either(first, above, kept),
             };
         }
         self

@@ -1,8 +1,10 @@
-// A leaf of two words with its edits, and how many bits of a word are set. Bits count from the lowest, and a word is
-// the list of its bits.
+// A leaf of two words with its edits, how many bits of a word are set, and one of two numbers. Bits count from the
+// lowest, and a word is the list of its bits.
+mod choice;
 mod count;
 mod leaf;
 
+pub use choice::either;
 pub use count::ones32;
 pub use count::ones64;
 pub use leaf::Halves;

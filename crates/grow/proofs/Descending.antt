@@ -1,18 +1,21 @@
 -- An insert at a leaf and at a fork: what it may assume there, and what it leaves if its call on the child does.
 use Prim.Native.Nat.{ℕ, suc, _+_, _-_, _≤_, _<_, _^_}
+use native.Mathlib.Nat.{add-zero}
 use native.Mathlib.Omega.{arith}
 use mathlib.Core.Path.{_≡_, refl, sym, ap, _∙_}
-use mathlib.Core.Bool.{Bool, true, false}
+use mathlib.Core.Bool.{Bool, true, false, _&&_}
 use mathlib.Core.List.{List}
 use borrow.Author.Tests.{le-leb, lt-ltb, le-ltb}
 use lib.IntN.{ℤ, pos}
 use lib.ListN.{length}
+use mir.Val.{boolByte}
 use Rattle.model.specs.Edit.{insert, splits, leaf-at}
 use Rattle.model.specs.Marks as Marks
 use Rattle.model.specs.Marks.{count}
 use Rattle.model.specs.Tree as Tree
 use Rattle.model.specs.Tree.{Tree, fork, top, marks, size, height, numbers}
 use Rattle.model.specs.Turn.{rebalance}
+use Rattle.model.specs.Word.{digit}
 use Rattle.model.proofs.Cases.{splits-left, splits-right}
 use Rattle.model.proofs.Content.{insert-size}
 use Rattle.model.proofs.MarksEdits.{length-insert}
@@ -22,7 +25,7 @@ use Rattle.bits.specs.Leaf.{bits-of, leaf-of}
 use Rattle.bits.specs.declared.leaf.Leaf.{Leaf}
 use Rattle.bits.proofs.Held.{insert-held}
 use Rattle.pool.specs.Layout.{fork-of}
-use Rattle.pool.specs.Node.{fork-cell, node-at, put, Put}
+use Rattle.pool.specs.Node.{fork-cell, node-at, put, with-left, Put}
 use Rattle.pool.specs.declared.node.Fork.{Fork}
 use Rattle.pool.specs.declared.node.Node.the-variants as Node
 use Rattle.pool.proofs.Cells.{put-fork, fork-says, leaf-says}
@@ -33,8 +36,9 @@ use Rattle.turn.specs.Sites.{After, Site, fork-at-heights}
 use Rattle.turn.proofs.Differences.{equal}
 use Rattle.turn.proofs.Sites.{around-first, by-fork-at, first-stays, top-apart}
 use Rattle.descent.proofs.Back.{Changed, Levels, ToLevel, changes, level, leveled, to-level}
+use Rattle.descent.proofs.Digits.{byte-digit}
 use Rattle.descent.proofs.Down.{Down, IsLeaf, Stepped, Toward, by-step, child-stands, down, is-leaf, top-put}
-use Rattle.grow.specs.Inserting.{Inserted, Settled, ToInsert, ToSettle, rest, with-mark}
+use Rattle.grow.specs.Inserting.{Inserted, Settled, ToInsert, ToSettle, rest}
 use Rattle.grow.proofs.Altering.{insert-count, insert-alters}
 
 -- ---- a leaf was read
@@ -117,11 +121,15 @@ leads {i = i} n l r e toward =
     (λ k. record { splits-same = splits-left i n l r k; inserts = λ b free. rw (insert, lt-ltb i (size l) k) })
     (λ k. record { splits-same = splits-right i n l r k; inserts = λ b free. rw (insert, le-ltb i (size l) k) })
 
--- the fork with one mark more says all of the trees afterwards but how they lean
+-- a fork with one mark more in its left child or in its right one
+abbrev with-mark : Fork → Bool → Bool → Fork
+with-mark f left bit = with-left f (f .«left_total» + digit left) (f .«left_ones» + digit (left && bit))
+
+-- it says all of the trees afterwards but how they lean
 recounted : (left : Bool) (f : Fork) (i : ℕ) (b : Bool) (free : List ℕ) (l r : Tree) → f ≡ fork-of l r → i ≤ size (side left l r)
     → let u : Tree = insert i b free (side left l r) in
     with-mark f left b ≡ fork-at-heights (height l) (height r) (side left u l) (side left r u)
-unfolding fork-of
+unfolding fork-of digit
 recounted true f i b free l r e h =
     let u : Tree = insert i b free l in
     let total : size l + 1 ≡ size u = omega (arith, insert-size i b free l h) in
@@ -136,8 +144,8 @@ recounted false f i b free l r e h =
     rw e (λ j. record {
       left = top l;
       right = sym (insert-top i b free r) j;
-      «left_total» = size l;
-      «left_ones» = count true (marks l);
+      «left_total» = add-zero (size l) j;
+      «left_ones» = add-zero (count true (marks l)) j;
       balance = (height r + 2) - height l;
     })
 
@@ -146,10 +154,17 @@ pub record Counted (w v : List ℕ) (n total index : ℕ) (bit : Bool) (f : Fork
   pub step : Stepped w n total index f s
   pub counts : Put w v n (Node.Fork (with-mark f (s .left) bit))
 
-pub counted-here : {w v : List ℕ} {n total index : ℕ} {bit : Bool} {f : Fork} {s : Step} (g : Fork) → Stepped w n total index f s
-    → g ≡ with-mark f (s .left) bit → v ≡ put w n (fork-cell g) → Counted w v n total index bit f s
-counted-here {w} {v} {n} {f = f} g step counted stored =
-    record { step = step; counts = rw (stored, ← counted) (put-fork w n g (fork-says w n f (step .read) .0)) }
+pub counted-here : {w v : List ℕ} {n total index : ℕ} {bit : Bool} {f : Fork} {s : Step} → Stepped w n total index f s
+    → ((g : Fork) → node-at w n ≡ Node.Fork g
+    → v ≡ put w n (fork-cell (with-left g (f .«left_total» + boolByte (s .left)) (f .«left_ones» + boolByte (s .left && bit)))))
+    → Counted w v n total index bit f s
+counted-here {w} {v} {n} {bit = bit} {f = f} {s = s} step stored =
+    record {
+      step = step;
+      counts =
+          rw (stored f (step .read), byte-digit (s .left), byte-digit (s .left && bit))
+          (put-fork w n (with-mark f (s .left) bit) (fork-says w n f (step .read) .0));
+    }
 
 module _ {w v : List ℕ} {n levels head total index : ℕ} {bit : Bool} {f : Fork} {s : Step}
     (p : Counted w v n total index bit f s) (b : ToInsert w n levels head total index) where

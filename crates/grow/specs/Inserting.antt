@@ -18,19 +18,13 @@ use Rattle.bits.specs.declared.leaf.Leaf.{Leaf}
 use Rattle.pool.specs.Layout.{Chained, Edited, Rooted, first-of}
 use Rattle.pool.specs.Node.{nodes-in}
 use Rattle.pool.specs.declared.chain.Chain.{Chain}
-use Rattle.pool.specs.declared.node.Fork.{Fork}
 use Rattle.turn.specs.Sites.{After}
-use Rattle.descent.specs.SiteAt.{SiteAt, one-more}
+use Rattle.descent.specs.SiteAt.{SiteAt}
 
 -- what an insert leaves of the free numbers: where its leaf splits, all but the first two
 abbrev pub rest : Bool → List ℕ → List ℕ
 rest true free = drop 2 free
 rest false free = free
-
--- a fork with one mark more in a child, by whether it is the left one
-abbrev pub with-mark : Fork → Bool → Bool → Fork
-with-mark f true bit = one-more f bit
-with-mark f false bit = f
 
 -- ---- is there room?
 

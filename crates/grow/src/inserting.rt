@@ -2,10 +2,9 @@
 // that there is nothing to do on the way back unless a leaf was split.
 ghost use mathlib.Core.Bool.{not};
 ghost use mathlib.Core.Path.{_≡_};
-ghost use Prim.Native.Nat.{_+_, _^_, _<_};
 ghost use lib.IntN.{pos};
 ghost use Rattle.model.specs.Pool.{full};
-ghost use Rattle.grow.specs.Inserting.{Inserted, InsertedInto, Settled, ToAsk, ToInsert, ToInsertInto, ToSettle, with-mark};
+ghost use Rattle.grow.specs.Inserting.{Inserted, InsertedInto, Settled, ToAsk, ToInsert, ToInsertInto, ToSettle};
 use bits::Leaf;
 use pool::Chain;
 use pool::Fork;
@@ -16,6 +15,7 @@ use pool::leaf_or_fork;
 use pool::next_free;
 use pool::set_fork;
 use pool::set_leaf;
+use pool::set_left;
 use tree::leaf_size;
 use tree::toward;
 use turn::child_changed;
@@ -79,20 +79,6 @@ fn settle(nodes: &mut [u64], head: &mut u64, n: u64, leaf: Leaf, size: u64) -> i
     1
 }
 
-// A fork with one mark more in its left child, if `left`, or in its right one.
-fn counted(fork: Fork, left: bool, bit: bool) -> Fork
-    requires { ⌜ (fork .«left_total» + 1 < 2 ^ 64) × (fork .«left_ones» + 1 < 2 ^ 64) ⌝ }
-    ensures { λ r. ⌜ r ≡ with-mark fork left bit ⌝ }
-{
-    Fork {
-        left: fork.left,
-        right: fork.right,
-        left_total: fork.left_total + left as u64,
-        left_ones: fork.left_ones + (left & bit) as u64,
-        balance: fork.balance,
-    }
-}
-
 // Puts a mark into the tree at n, which holds `length`, and says by how much the tree has grown in height. `head` is
 // the first free number.
 fn insert_below(
@@ -112,7 +98,9 @@ fn insert_below(
         TreeNode::Leaf(leaf) => settle(nodes, head, n, leaf.insert(index, bit), length + 1),
         TreeNode::Fork(fork) => {
             let step = toward(fork, length, index);
-            set_fork(nodes, n, counted(fork, step.left, bit));
+            let total = fork.left_total + step.left as u64;
+            let ones = fork.left_ones + (step.left & bit) as u64;
+            set_left(nodes, n, total, ones);
             let change = insert_below(
                 nodes,
                 head,

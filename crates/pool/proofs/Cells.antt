@@ -12,7 +12,7 @@ use lib.ListN.{length, getD, set, length-set}
 use lib.Seq.{sets, length-sets, getD-set-same, getD-set-other, set-getD, ext-getD}
 use Rattle.bits.specs.declared.leaf.Leaf.{Leaf}
 use Rattle.pool.specs.Node.{LeafOrFork, OfTree, balance-in, free-cell, leaf-cell, leaf-words, fork-cell, fork-words, of-kind, node-of}
-use Rattle.pool.specs.Node.{nodes-in, cell-at, node-at, put, put-node, Put}
+use Rattle.pool.specs.Node.{nodes-in, cell-at, node-at, put, put-node, with-left, Put}
 use Rattle.pool.specs.declared.node.Cell.{Cell}
 use Rattle.pool.specs.declared.node.Fork.{Fork}
 use Rattle.pool.specs.declared.node.Node.{Node}
@@ -249,8 +249,7 @@ kept w i x e = ap (set w i) (sym e) ∙ set-getD w i 0
 
 -- setting what a fork says of its left child is putting the fork that says so
 pub put-left : (w : List ℕ) (n : ℕ) (f : Fork) (total ones : ℕ) → node-at w n ≡ fork f
-    → set (set w (n * 6 + 3) total) (n * 6 + 4) ones
-    ≡ put w n (fork-cell (record { left = f .left; right = f .right; «left_total» = total; «left_ones» = ones; balance = f .balance }))
+    → set (set w (n * 6 + 3) total) (n * 6 + 4) ones ≡ put w n (fork-cell (with-left f total ones))
 unfolding put
 put-left w n f total ones e =
     let s = fork-says w n f e in

@@ -20,6 +20,7 @@ use Rattle.pool.proofs.node.node_count.Reads as node-count
 use Rattle.pool.proofs.node.set_fork.Reads as set-fork
 use Rattle.pool.proofs.node.set_free.Reads as set-free
 use Rattle.pool.proofs.node.set_leaf.Reads as set-leaf
+use Rattle.pool.proofs.node.set_left.Reads as set-left
 
 -- two tree nodes that are one node
 one-node : (x y : TreeNode) → as-node x ≡ as-node y → x ≡ y
@@ -64,3 +65,7 @@ move-node-pinned κs a r r′ w w′ p q = p ∙ sym q
 pub less-left-pinned : (κs : _) (a : _) (r r′ : _) (w w′ : _) → less-left.Pre κs a → less-left.Post κs a r w → less-left.Post κs a r′ w′
     → now (w .0) ≡ now (w′ .0)
 less-left-pinned κs a r r′ w w′ t p q = p (t .0) (t .1) ∙ sym (q (t .0) (t .1))
+
+pub set-left-pinned : (κs : _) (a : _) (r r′ : _) (w w′ : _) → set-left.Pre κs a → set-left.Post κs a r w → set-left.Post κs a r′ w′
+    → now (w .0) ≡ now (w′ .0)
+set-left-pinned κs a r r′ w w′ t p q = p (t .0) (t .1) ∙ sym (q (t .0) (t .1))

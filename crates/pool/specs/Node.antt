@@ -97,22 +97,14 @@ put w n x =
       | false ↦ w
     ]
 
--- a fork whose left child has so many marks less, so many of them strikes
-abbrev pub less-left : Fork → ℕ → ℕ → Fork
-less-left f total ones =
-    record {
-      left = f .left;
-      right = f .right;
-      «left_total» = f .«left_total» - total;
-      «left_ones» = f .«left_ones» - ones;
-      balance = f .balance;
-    }
+-- a fork whose left child holds so many marks now, so many of them strikes
+abbrev pub with-left : Fork → ℕ → ℕ → Fork
+with-left f total ones =
+    record { left = f .left; right = f .right; «left_total» = total; «left_ones» = ones; balance = f .balance }
 
--- the words with the fourth and the fifth of node n lowered by so much
-abbrev pub lowered : List ℕ → ℕ → ℕ → ℕ → List ℕ
-lowered w n total ones =
-    let at : ℕ = n * node-words in
-    set (set w (at + 3) (cell-at w n .fourth - total)) (at + 4) (cell-at w n .fifth - ones)
+-- one whose left child has so many marks less, so many of them strikes
+abbrev pub less-left : Fork → ℕ → ℕ → Fork
+less-left f total ones = with-left f (f .«left_total» - total) (f .«left_ones» - ones)
 
 -- all that is known of a store: w′ is w but for node n, which is x in it
 pub record Put (w w′ : List ℕ) (n : ℕ) (x : Node) : Type 0 where

@@ -25,3 +25,4 @@ pub use node::node_count;
 pub use node::set_fork;
 pub use node::set_free;
 pub use node::set_leaf;
+pub use node::set_left;

@@ -1,7 +1,7 @@
 // A node of the pool, read from its six words and written to them. `node_at` and the writers take any words and any
 // number: where there is no such node, or its words are not laid out as one, it says so, and they do nothing. Shorter
-// ways are for callers who know what stands at n: the other readers test no word that they need not, and `less_left`
-// writes two words of a fork.
+// ways are for callers who know what stands at n: the other readers test no word that they need not, and `set_left` and
+// `less_left` write two words of a fork.
 //
 //     free        0, next free number, 0, 0, 0, 0
 //     leaf        1, low word, high word, 0, 0, 0
@@ -12,7 +12,7 @@ ghost use mathlib.Core.Path.{_≡_};
 ghost use Prim.Native.Nat.{ℕ, _<_, _≤_};
 ghost use Rattle.pool.specs.Node.{LeafOrFork, OfTree, as-node, balance-in, cell-at, fork-cell, fork-in};
 ghost use Rattle.pool.specs.Node.{fork-words, free-cell, if-zero, leaf-cell, leaf-in, leaf-words, less-left};
-ghost use Rattle.pool.specs.Node.{lowered, next-in, node-at, node-of, nodes-in, of-kind, put, put-node};
+ghost use Rattle.pool.specs.Node.{next-in, node-at, node-of, nodes-in, of-kind, put, put-node, with-left};
 
 const FREE: u64 = 0;
 
@@ -260,29 +260,27 @@ pub fn set_fork(nodes: &mut [u64], n: u64, fork: Fork)
     );
 }
 
-// Lowers the fourth and the fifth word of node n.
-fn lower_left(nodes: &mut [u64], n: u64, total: u64, ones: u64)
-    requires { ⌜ n < nodes-in (now nodes) ⌝ }
-    requires { ⌜ total ≤ cell-at (now nodes) n .fourth ⌝ }
-    requires { ⌜ ones ≤ cell-at (now nodes) n .fifth ⌝ }
-    ensures { λ _. ⌜ now (nodes .exit) ≡ lowered (now (nodes .entry)) n total ones ⌝ }
+// Writes what the fork at n says of its left child: so many marks, so many of them strikes. Only these two words are
+// written.
+pub fn set_left(nodes: &mut [u64], n: u64, total: u64, ones: u64)
+    requires { ⌜ ((f : Fork) × (node-at (now nodes) n ≡ Node.Fork f)) ⌝ }
+    ensures { λ _. ⌜ ((f : Fork) → node-at (now (nodes .entry)) n ≡ Node.Fork f
+        → now (nodes .exit) ≡ put (now (nodes .entry)) n (fork-cell (with-left f total ones))) ⌝ }
 {
     let at = (n * NODE_WORDS) as usize;
-    let marks = nodes[at + 3];
-    let strikes = nodes[at + 4];
-    nodes[at + 3] = marks - total;
-    nodes[at + 4] = strikes - ones;
+    nodes[at + 3] = total;
+    nodes[at + 4] = ones;
 }
 
-// Takes so many marks, so many of them strikes, off what the fork at n says of its left child. Only these two words are
-// written.
+// Takes so many marks, so many of them strikes, off what the fork at n says of its left child.
 pub fn less_left(nodes: &mut [u64], n: u64, total: u64, ones: u64)
     requires { ⌜ ((f : Fork) × (node-at (now nodes) n ≡ Node.Fork f) × (total ≤ f .«left_total»)
         × (ones ≤ f .«left_ones»)) ⌝ }
     ensures { λ _. ⌜ ((f : Fork) → node-at (now (nodes .entry)) n ≡ Node.Fork f
         → now (nodes .exit) ≡ put (now (nodes .entry)) n (fork-cell (less-left f total ones))) ⌝ }
 {
-    lower_left(nodes, n, total, ones);
+    let fork = fork_at(nodes, n);
+    set_left(nodes, n, fork.left_total - total, fork.left_ones - ones);
 }
 
 // Puts a copy of a tree's node at another number.

@@ -13,13 +13,13 @@ use Rattle.model.specs.Word.{digit}
 use Rattle.model.proofs.Shape.{put-before-shape, put-after-shape, drop-first-shape, drop-last-shape}
 use Rattle.bits.specs.Leaf.{bits-of, leaf-of}
 use Rattle.bits.specs.declared.leaf.Leaf.{Leaf}
-use Rattle.pool.specs.Node.{leaf-cell, leaf-in, fork-cell, less-left, node-at, put}
+use Rattle.pool.specs.Node.{leaf-cell, leaf-in, fork-cell, less-left, node-at, put, with-left}
 use Rattle.pool.specs.Layout.{Holds, Rooted, Edited, fork-of}
 use Rattle.pool.specs.declared.node.Fork.{Fork}
 use Rattle.pool.specs.declared.node.Node.the-variants.{Leaf as leaf, Fork as fork}
 use Rattle.pool.proofs.Standing.{by-leaf, by-fork, some-level, leaf-small}
 use Rattle.model.specs.Side.{side}
-use Rattle.spine.specs.Edges.{Editable, IsLast, ToPutBefore, ToDropFirst, Taken, last-number, with-left}
+use Rattle.spine.specs.Edges.{Editable, IsLast, ToPutBefore, ToDropFirst, Taken, last-number}
 use Rattle.spine.specs.declared.edges.LastLeaf.{LastLeaf}
 use Rattle.spine.proofs.Edits.{rooted-child, editable-child, fork-left, edited-leaf, edited-left, edited-right, top-stays}
 use Rattle.spine.proofs.Ends.{put-before-size, put-before-count, drop-first-size, drop-first-count, count-most, strikes-most, joined, first-removed, first-marked, last-removed, last-marked}

@@ -14,14 +14,14 @@ use Rattle.model.proofs.Rearranged.{weigh, weigh-append, rearranged-sym, rearra
 use Rattle.model.proofs.Shape.{shape, alike-top, alike-height, alike-numbers}
 use Rattle.bits.specs.Leaf.{leaf-of}
 use Rattle.bits.specs.declared.leaf.Leaf.{Leaf}
-use Rattle.pool.specs.Node.{leaf-cell, fork-cell, node-at, put, Put}
+use Rattle.pool.specs.Node.{leaf-cell, fork-cell, node-at, put, with-left, Put}
 use Rattle.pool.specs.Layout.{Holds, Rooted, Edited, fork-of}
 use Rattle.pool.specs.declared.node.Fork.{Fork}
 use Rattle.pool.specs.declared.node.Node.the-variants.{Leaf as leaf, Fork as fork}
 use Rattle.pool.proofs.Cells.{put-leaf, put-fork, leaf-says, fork-says}
 use Rattle.pool.proofs.Standing.{holds-same, leaf-read, fork-read, left-rooted, right-rooted}
 use Rattle.model.specs.Side.{side}
-use Rattle.spine.specs.Edges.{Editable, with-left}
+use Rattle.spine.specs.Edges.{Editable}
 
 -- ---- each number of a fork stands once
 

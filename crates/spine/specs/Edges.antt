@@ -12,13 +12,7 @@ use Rattle.model.specs.Tree.{Tree, first-leaf, last-leaf, numbers}
 use Rattle.bits.specs.Leaf.{leaf-of}
 use Rattle.bits.specs.declared.leaf.Leaf.{Leaf}
 use Rattle.pool.specs.Layout.{Rooted, Edited}
-use Rattle.pool.specs.declared.node.Fork.{Fork}
 use Rattle.spine.specs.declared.edges.LastLeaf.{LastLeaf}
-
--- a fork, with other totals of its left child
-abbrev pub with-left : Fork → ℕ → ℕ → Fork
-with-left f total ones =
-    record { left = f .left; right = f .right; «left_total» = total; «left_ones» = ones; balance = f .balance }
 
 -- the number of the last leaf
 abbrev pub last-number : Tree → ℕ

@@ -9,7 +9,8 @@ ghost use Rattle.model.specs.Edit.{drop-first, drop-last, first-mark, last-mark
 ghost use Rattle.model.specs.Tree as Tree;
 ghost use Rattle.model.specs.Tree.{Tree, first-leaf, last-leaf, numbers};
 ghost use Rattle.pool.specs.Layout.{Edited, Rooted};
-ghost use Rattle.spine.specs.Edges.{IsLast, Taken, ToDropFirst, ToDropLast, ToPutAfter, ToPutBefore, with-left};
+ghost use Rattle.pool.specs.Node.{with-left};
+ghost use Rattle.spine.specs.Edges.{IsLast, Taken, ToDropFirst, ToDropLast, ToPutAfter, ToPutBefore};
 use bits::Leaf;
 use pool::Fork;
 use pool::TreeNode;

@@ -10,6 +10,7 @@ use lib.ListN.{length}
 use Rattle.model.specs.Tree as Tree
 use Rattle.model.specs.Tree.{Tree, marks, size}
 use Rattle.model.proofs.Cases.{by-test}
+use Rattle.bits.specs.Choice.{Picked}
 use Rattle.bits.specs.Leaf.{leaf-of}
 use Rattle.bits.specs.declared.leaf.Leaf.{Leaf}
 use Rattle.pool.specs.Layout.{Rooted, fork-of}
@@ -20,7 +21,7 @@ use Rattle.pool.specs.declared.node.TreeNode.{TreeNode}
 use Rattle.pool.specs.declared.node.TreeNode.the-variants as TreeNode
 use Rattle.pool.proofs.Standing.{by-leaf, by-fork, left-rooted, right-rooted, rooted-node, some-level, leaf-small}
 use Rattle.tree.specs.TreeAt.{TreeAt}
-use Rattle.tree.specs.Stepping.{Picked, step-left, step-right}
+use Rattle.tree.specs.Stepping.{step-left, step-right}
 use Rattle.tree.specs.declared.steps.Step.{Step}
 
 -- ---- one step, where a test tells the child

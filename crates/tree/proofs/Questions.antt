@@ -17,6 +17,7 @@ use Rattle.model.proofs.Cases.{by-test, by-ltb}
 use Rattle.model.proofs.Content.{size-marks}
 use Rattle.model.proofs.Counting.{count-append, count-both, further-zero, further-further, select-in-second, select-none, select-some, select-below, ones-le, wanted-length}
 use Rattle.model.proofs.Paths.{access-left, access-right, rank-left, rank-right, select-left, select-right, count-size}
+use Rattle.bits.specs.Choice.{Picked}
 use Rattle.bits.specs.Leaf.{leaf-of, bits-of}
 use Rattle.select.specs.Select.{placed}
 use Rattle.bits.specs.declared.leaf.Leaf.{Leaf}
@@ -27,7 +28,7 @@ use Rattle.bits.proofs.TwoWords.{bit-low, bit-high, both-length}
 use Rattle.pool.specs.Layout.{fork-of}
 use Rattle.pool.specs.declared.node.Fork.{Fork}
 use Rattle.tree.specs.Query.{Near, Spotted, found-at, found-of, of-kind}
-use Rattle.tree.specs.Stepping.{Picked, step-left, step-right}
+use Rattle.tree.specs.Stepping.{step-left, step-right}
 use Rattle.tree.specs.declared.query.Found.the-variants.{At, TooFew}
 use Rattle.tree.specs.declared.steps.Step.{Step}
 use Rattle.tree.proofs.Down.{On, OnFork, down-left, down-right}

@@ -1,7 +1,6 @@
 -- One step down a tree, to a fork's left child or to its right one.
 use Prim.Native.Nat.{ℕ, _-_}
-use mathlib.Core.Path.{_≡_}
-use mathlib.Core.Bool.{Bool, true, false}
+use mathlib.Core.Bool.{true, false}
 use Rattle.pool.specs.declared.node.Fork.{Fork}
 use Rattle.tree.specs.declared.steps.Step.{Step}
 
@@ -16,8 +15,3 @@ step-right f total i = record {
   length = total - f .«left_total»;
   index = i - f .«left_total»;
 }
-
--- r is the first of two numbers where a test passed, and the other one where it failed
-pub record Picked (first : Bool) (a b r : ℕ) : Type 0 where
-  pub one : first ≡ true → r ≡ a
-  pub other : first ≡ false → r ≡ b

@@ -1,7 +1,8 @@
 // One step down a tree.
 ghost use mathlib.Core.Path.{_≡_};
 ghost use Prim.Native.Nat.{_≤_, _<_};
-ghost use Rattle.tree.specs.Stepping.{Picked, step-left, step-right};
+ghost use Rattle.tree.specs.Stepping.{step-left, step-right};
+use bits::either;
 use pool::Fork;
 
 // The child of a fork that a place leads to, whether it is the left one, how many marks it holds, and the place in it.
@@ -12,7 +13,8 @@ pub struct Step {
     pub index: u64,
 }
 
-// Left where the place is below the left child's total, else right. The fork holds `length` marks.
+// Left where the place is below the left child's total, else right. The fork holds `length` marks. Each number is
+// chosen by itself, and so without a jump, which a walk to any place would have the processor guess.
 pub fn toward(fork: Fork, length: u64, index: u64) -> Step
     requires { ⌜ fork .«left_total» ≤ length ⌝ }
     ensures { λ r. ⌜ (index < fork .«left_total» → r ≡ step-left fork index) ⌝ }
@@ -25,12 +27,4 @@ pub fn toward(fork: Fork, length: u64, index: u64) -> Step
         length: either(left, fork.left_total, length - fork.left_total),
         index: index - either(left, 0, fork.left_total),
     }
-}
-
-// One of two numbers. Each number of a step is chosen by itself, and so without a jump, which a walk to any place would
-// have the processor guess.
-pub fn either(first: bool, a: u64, b: u64) -> u64
-    ensures { λ r. ⌜ Picked first a b r ⌝ }
-{
-    if first { a } else { b }
 }

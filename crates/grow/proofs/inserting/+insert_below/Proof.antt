@@ -1,7 +1,8 @@
 -- At a leaf the mark goes in and the leaf is settled; at a fork, which counts the mark, it goes to the child, and the
 -- fork is balanced again where the child has grown. Assumes nothing.
-use Prim.Native.Nat.{ℕ, _<_}
+use Prim.Native.Nat.{ℕ, _+_, _<_, _^_}
 use native.Mathlib.Omega.{arith}
+use mathlib.Core.Bool.{_&&_}
 use mathlib.Core.Path.{_≡_, sym, ap, _∙_}
 use borrow.Author.Needs.{needs}
 use denote.Ref.{now}
@@ -12,6 +13,7 @@ use Rattle.pool.specs.declared.node.Node.the-variants as Node
 use Rattle.pool.proofs.Standing.{rooted-node}
 use Rattle.turn.proofs.Differences.{held}
 use Rattle.descent.proofs.Back.{after-held}
+use Rattle.descent.proofs.Digits.{byte-fits}
 use Rattle.descent.proofs.Down.{fork-level, left-within}
 use Rattle.grow.specs.Inserting.{Inserted, ToInsert}
 use Rattle.grow.proofs.Descending.{Counted, counted-here, insert-leveled, insert-level, insert-stale, left-fits, settled-leaf, to-child, to-settle}
@@ -21,10 +23,9 @@ use Rattle.grow.proofs.inserting.insert_below.Reads as insert-below
 use Rattle.grow.proofs.inserting.insert_below.Kinds as insert-below-kinds
 use Rattle.grow.proofs.inserting.+insert_below.Lts-insert_below as insert-below-lts
 use Rattle.bits.proofs.leaf.Leaf.insert.Reads as insert-reads
-use Rattle.grow.proofs.inserting.counted.Reads as counted-reads
 use Rattle.grow.proofs.inserting.settle.Reads as settle-reads
 use Rattle.pool.proofs.leaf_or_fork.Reads as leaf-or-fork-reads
-use Rattle.pool.proofs.set_fork.Reads as set-fork-reads
+use Rattle.pool.proofs.set_left.Reads as set-left-reads
 use Rattle.tree.proofs.toward.Reads as toward-reads
 use Rattle.turn.proofs.child_changed.Reads as child-changed-reads
 use Rattle.grow.proofs.inserting.+insert_below.{statement}
@@ -49,10 +50,8 @@ claims t = (
   settle-reads.Learnt,
   toward-reads.Asked,
   toward-reads.Learnt,
-  counted-reads.Asked,
-  counted-reads.Learnt,
-  set-fork-reads.Asked,
-  set-fork-reads.Learnt,
+  set-left-reads.Asked,
+  set-left-reads.Learnt,
   insert-below-below t,
   insert-below.Post,
   child-changed-reads.Asked,
@@ -71,8 +70,11 @@ module _ (t : ℕ) where
   abbrev Fork-read : Type 0
   Fork-read = insert-below-lts.After-fork (claims t) (insert-below-at t) insert-below.Post
 
-  abbrev Fork-put : Type 0
-  Fork-put = insert-below-lts.After-set-fork (claims t) (insert-below-at t) insert-below.Post
+  abbrev Toward-done : Type 0
+  Toward-done = insert-below-lts.After-toward (claims t) (insert-below-at t) insert-below.Post
+
+  abbrev Mark-counted : Type 0
+  Mark-counted = insert-below-lts.After-set-left (claims t) (insert-below-at t) insert-below.Post
 
   abbrev Child-done : Type 0
   Child-done = insert-below-lts.After-insert-below (claims t) (insert-below-at t) insert-below.Post
@@ -83,11 +85,17 @@ module _ (t : ℕ) where
   abbrev fork-start : Fork-read → Start
   fork-start c = c .before .before .before .before .before
 
-  abbrev put-read : Fork-put → Fork-read
-  put-read c = c .before .before .before .before .before
+  abbrev toward-read : Toward-done → Fork-read
+  toward-read c = c .before .before
 
-  abbrev done-put : Child-done → Fork-put
-  done-put c = c .before .before .before .before .before
+  abbrev counted-toward : Mark-counted → Toward-done
+  counted-toward c = c .before .before .before .before .before .before
+
+  abbrev counted-read : Mark-counted → Fork-read
+  counted-read c = toward-read (counted-toward c)
+
+  abbrev done-counted : Child-done → Mark-counted
+  done-counted c = c .before .before .before .before .before
 
   -- ---- what is known there
 
@@ -101,25 +109,26 @@ module _ (t : ℕ) where
   read-fork c = sym (c .before .before .leaf-or-fork .ensures) ∙ ap as-node (c .fork .given .1)
 
   -- the step to the child, with the mark counted
-  step : (c : Fork-put) → let fork = put-read c in
+  step : (c : Mark-counted) → let fork = counted-read c in
       let a = fork-start fork .args in
-      Counted (now (a .nodes)) (c .set-fork .last .0) (a .n) (a .length) (a .index) (a .bit) (fork .fork .given .0 .0)
-      (c .before .before .before .toward .result)
+      Counted (now (a .nodes)) (c .set-left .last .0) (a .n) (a .length) (a .index) (a .bit) (fork .fork .given .0 .0)
+      (counted-toward c .toward .result)
   step c =
-      let count = c .before in
-      let toward = count .before .before .toward in
-      counted-here (count .counted .result)
+      let toward = counted-toward c .toward in
+      counted-here
       (record {
-        read = read-fork (put-read c);
+        read = read-fork (counted-read c);
         toward = record { to-left = toward .ensures .0; to-right = toward .ensures .1 };
       })
-      (count .counted .ensures) (c .set-fork .ensures)
+      (c .set-left .ensures)
 
   -- what the call on the child left, with its change as a word
-  done : (c : Child-done) (b : Given (fork-start (put-read (done-put c))))
-      → Inserted (to-child (step (done-put c)) b) (c .insert-below .last .0) (c .insert-below .last .1 .0) (held (c .insert-below .result))
-      (fork-start (put-read (done-put c)) .args .bit)
-  done c b = after-held (c .insert-below .result) (record { sfits = c .insert-below .ok }) (c .insert-below .ensures (to-child (step (done-put c)) b))
+  done : (c : Child-done) (b : Given (fork-start (counted-read (done-counted c))))
+      → Inserted (to-child (step (done-counted c)) b) (c .insert-below .last .0) (c .insert-below .last .1 .0) (held (c .insert-below .result))
+      (fork-start (counted-read (done-counted c)) .args .bit)
+  done c b =
+      after-held (c .insert-below .result) (record { sfits = c .insert-below .ok })
+      (c .insert-below .ensures (to-child (step (done-counted c)) b))
 
   -- ---- needs
 
@@ -143,33 +152,43 @@ module _ (t : ℕ) where
       let b = fork-start (c .before) .pre .1 in
       left-within (b .at .site .rooted) (read-fork (c .before)) (b .at .total-is)
 
-  counted-requires : insert-below-lts.Need-counted-requires (claims t) (insert-below-at t) insert-below.Post
-  counted-requires c κs =
-      let fork = c .before .before .before in
-      left-fits (fork-start fork .pre .1) (read-fork fork)
+  -- one mark more fits what the fork says of its left child
+  fits : (c : Toward-done) → let f = toward-read c .fork .given .0 .0 in (f .«left_total» + 1 < 2 ^ 64) × (f .«left_ones» + 1 < 2 ^ 64)
+  fits c = let fork = toward-read c in left-fits (fork-start fork .pre .1) (read-fork fork)
+
+  add-total : insert-below-lts.Need-add-total (claims t) (insert-below-at t) insert-below.Post
+  add-total c = let s = c .before .before in byte-fits _ (s .toward .result .left) (fits s .0)
+
+  add-ones : insert-below-lts.Need-add-ones (claims t) (insert-below-at t) insert-below.Post
+  add-ones c =
+      let s = c .before .before .before .before in
+      byte-fits _ (s .toward .result .left && fork-start (toward-read s) .args .bit) (fits s .1)
+
+  set-left-requires : insert-below-lts.Need-set-left-requires (claims t) (insert-below-at t) insert-below.Post
+  set-left-requires c κs = (_, read-fork (toward-read (c .before .before .before .before .before)))
 
   sub-insert-below : insert-below-lts.Need-sub-insert-below (claims t) (insert-below-at t) insert-below.Post
   sub-insert-below c =
-      let fork = put-read (c .before .before .before .before) in
+      let fork = counted-read (c .before .before .before .before) in
       fork-level (fork-start fork .pre .1 .at .site .rooted) (read-fork fork)
 
   insert-below-requires : insert-below-lts.Need-insert-below-requires (claims t) (insert-below-at t) insert-below.Post
   insert-below-requires c κs =
-      let put = c .before .before .before .before in
-      let start = fork-start (put-read put) in
+      let counted = c .before .before .before .before in
+      let start = fork-start (counted-read counted) in
       let b = start .pre .1 in
-      (omega (arith, start .pre .0, fork-level (b .at .site .rooted) (step put .step .read)), to-child (step put) b)
+      (omega (arith, start .pre .0, fork-level (b .at .site .rooted) (step counted .step .read)), to-child (step counted) b)
 
   returns : insert-below-lts.Need-returns (claims t) (insert-below-at t) insert-below.Post
   returns c = λ b.
       let below = c .before .before .before in
-      insert-level (step (done-put below)) b (done below b) (ap (toZ w64) (c .if1 .taken))
+      insert-level (step (done-counted below)) b (done below b) (ap (toZ w64) (c .if1 .taken))
 
   child-changed-requires : insert-below-lts.Need-child-changed-requires (claims t) (insert-below-at t) insert-below.Post
   child-changed-requires c κs =
       let below = c .before .before .before .before in
-      let b = fork-start (put-read (done-put below)) .pre .1 in
-      insert-stale (step (done-put below)) b (done below b)
+      let b = fork-start (counted-read (done-counted below)) .pre .1 in
+      insert-stale (step (done-counted below)) b (done below b)
 
   returns-2 : insert-below-lts.Need-returns-2 (claims t) (insert-below-at t) insert-below.Post
   returns-2 c = λ b.
@@ -187,11 +206,12 @@ module _ (t : ℕ) where
       let changed = c .before .before .child-changed in
       let below = c .before .before .before .before .before .before .before in
       after-held (changed .result) (record { sfits = changed .ok })
-      (insert-leveled (step (done-put below)) b (done below b) (changed .ensures))
+      (insert-leveled (step (done-counted below)) b (done below b) (changed .ensures))
 
 pub +insert-below-spec : {M : Type 1} → statement M
 +insert-below-spec =
     close μ-insert-below λ t. insert-below-lts.spec (claims t) (insert-below-at t) insert-below.Post
     (leaf-or-fork-requires t) (λ c. search needs) (λ c κs. search needs) (add-settle t) (settle-requires t) (λ c. search needs)
-    (toward-requires t) (counted-requires t) (λ c κs. search needs) (sub-insert-below t) (insert-below-requires t)
+    (toward-requires t) (λ c. search needs) (add-total t) (λ c. search needs) (add-ones t) (set-left-requires t) (sub-insert-below t)
+    (insert-below-requires t)
     (λ c. search needs) (returns t) (child-changed-requires t) (λ c. search needs) (returns-2 t) (λ c. search needs) (returns-3 t)

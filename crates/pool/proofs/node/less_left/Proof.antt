@@ -1,31 +1,34 @@
--- The fork says what its fourth and fifth word are. Assumes nothing.
+-- The fork that is read is the one that stands there. Assumes nothing.
 use native.Mathlib.Omega.{arith}
 use borrow.Author.Needs.{needs}
 use mathlib.Core.Path.{_≡_, ap, _∙_}
-use mathlib.Core.List.{List}
-use denote.Ref.{now}
-use lib.ListN.{set}
-use Prim.Native.Nat.{ℕ, _+_, _-_, _*_}
-use Rattle.pool.specs.declared.node.Cell.{Cell}
-use Rattle.pool.proofs.Cells.{fork-says, put-left}
+use Rattle.pool.specs.Node.{fork-in}
+use Rattle.pool.specs.declared.node.Fork.{Fork}
 use Rattle.pool.proofs.node.less_left.Statement.{statement}
 use Rattle.pool.proofs.node.less_left.Tie as tie
 
-lower-left-requires : tie.Need-lower-left-requires
-lower-left-requires c κs =
-    let w = now (c .before .before .args .nodes) in
-    let p = c .before .before .pre in
-    let s = fork-says w (c .before .before .args .n) (p .0) (p .1) in
-    (s .0, (omega (arith, ap (λ (x : Cell). x .fourth) (s .1), p .2), omega (arith, ap (λ (x : Cell). x .fifth) (s .1), p .3)))
+read : (c : tie.After-fork-at) → c .fork-at .result ≡ c .before .before .before .pre .0
+read c = c .fork-at .ensures ∙ ap fork-in (c .before .before .before .pre .1)
+
+sub-set-left : tie.Need-sub-set-left
+sub-set-left c =
+    let fork = c .before .before in
+    omega (arith, ap (λ (g : Fork). g .«left_total») (read fork), fork .before .before .before .pre .2)
+
+sub-set-left-2 : tie.Need-sub-set-left-2
+sub-set-left-2 c =
+    let fork = c .before .before .before in
+    omega (arith, ap (λ (g : Fork). g .«left_ones») (read fork), fork .before .before .before .pre .3)
 
 returns : tie.Need-returns
 returns c = λ f e.
-    let a = c .before .before .before .before .before .args in
-    let w = now (a .nodes) in
-    let s = fork-says w (a .n) f e in
-    c .before .before .lower-left .ensures
-    ∙ ap (λ (x : Cell). set (set w (a .n * 6 + 3) (x .fourth - a .total)) (a .n * 6 + 4) (x .fifth - a .ones)) (s .1)
-    ∙ put-left w (a .n) f _ _ e
+    let set = c .before .before in
+    let fork = set .before .before .before .before in
+    rw (fork .fork-at .ensures ∙ ap fork-in e) at (set .set-left .ensures f e)
 
 pub less-left-spec : {M : Type 1} → statement M
-less-left-spec = tie.close (tie.spec lower-left-requires (λ c. search needs) returns)
+less-left-spec =
+    tie.close
+    (tie.spec
+    (λ c κs. let p = c .before .before .pre in (p .0, p .1)) sub-set-left sub-set-left-2
+    (λ c κs. let p = c .before .before .before .before .before .before .pre in (p .0, p .1)) (λ c. search needs) returns)

@@ -2,8 +2,8 @@
 use Prim.Native.Nat.{ℕ}
 use native.Mathlib.Omega.{arith}
 use mathlib.Core.Path.{_≡_, refl}
-use Rattle.tree.proofs.steps.either.Statement.{statement}
-use Rattle.tree.proofs.steps.either.Tie as tie
+use Rattle.bits.proofs.choice.either.Statement.{statement}
+use Rattle.bits.proofs.choice.either.Tie as tie
 
 returns : tie.Need-returns
 returns c = record { one = λ t. refl; other = λ t. let taken = c .if1 .taken in let never : _≡_ {A = ℕ} 0 1 = cc in absurd (omega arith) }
