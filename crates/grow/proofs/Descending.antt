@@ -154,11 +154,11 @@ pub record Counted (w v : List ℕ) (n total index : ℕ) (bit : Bool) (f : Fork
   pub step : Stepped w n total index f s
   pub counts : Put w v n (Node.Fork (with-mark f (s .left) bit))
 
-pub counted-here : {w v : List ℕ} {n total index : ℕ} {bit : Bool} {f : Fork} {s : Step} → Stepped w n total index f s
+pub counted-here : {w v : List ℕ} {n total index : ℕ} (bit : Bool) {f : Fork} {s : Step} → Stepped w n total index f s
     → ((g : Fork) → node-at w n ≡ Node.Fork g
     → v ≡ put w n (fork-cell (with-left g (f .«left_total» + boolByte (s .left)) (f .«left_ones» + boolByte (s .left && bit)))))
     → Counted w v n total index bit f s
-counted-here {w} {v} {n} {bit = bit} {f = f} {s = s} step stored =
+counted-here {w} {v} {n} bit {f} {s} step stored =
     record {
       step = step;
       counts =

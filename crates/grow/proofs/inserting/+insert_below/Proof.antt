@@ -115,7 +115,7 @@ module _ (t : ℕ) where
       (counted-toward c .toward .result)
   step c =
       let toward = counted-toward c .toward in
-      counted-here
+      counted-here (fork-start (counted-read c) .args .bit)
       (record {
         read = read-fork (counted-read c);
         toward = record { to-left = toward .ensures .0; to-right = toward .ensures .1 };
