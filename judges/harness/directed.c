@@ -80,6 +80,7 @@ static void looked_at(void) {
     holds(memcmp(pool, before, kept_bytes()) == 0, "values: the pool");
 }
 
+/* A window of the first of the marks, in a pool of so many nodes. */
 static void build(uint64_t nodes, uint64_t length) {
     pool_words = SZ_POOL_WORDS(nodes);
     memset(pool, SPARE, kept_bytes());
@@ -89,7 +90,7 @@ static void build(uint64_t nodes, uint64_t length) {
         list.marks[i] = marks[i / 64] >> i % 64 & 1;
 }
 
-/* Serves the orders that were given. Where one of them may be Full they are served one by one. */
+/* Serves some of the orders that were given, each answered as the model answers it. Full is told to the model. */
 static void served(size_t first, size_t count, int full) {
     answered("run", sz_run(pool, pool_words, orders + 3 * first, 3 * count, out, 2 * count), SZ_DONE, count);
     for (size_t i = 0; i < count; i++) {
@@ -98,6 +99,7 @@ static void served(size_t first, size_t count, int full) {
     }
 }
 
+/* Serves the orders that were given, as one list where none of them can be Full, else one by one. */
 static void serve(void) {
     if (pool[pool_words - 3] >= 2 * listed)
         served(0, listed, 0);
@@ -111,16 +113,18 @@ static void serve(void) {
     listed = 0;
 }
 
+/* Gives an order; a list that is long enough is served. */
 static void order(uint64_t number, uint64_t second, uint64_t third) {
     orders[3 * listed] = number, orders[3 * listed + 1] = second, orders[3 * listed + 2] = third;
     if (++listed == LIST)
         serve();
 }
 
-static void fill(unsigned density) {
+/* Marks by chance, of which every second is a strike, or every fourth, or every eighth. */
+static void fill(unsigned halvings) {
     for (size_t i = 0; i < MARK_WORDS; i++) {
         marks[i] = drawn();
-        for (unsigned j = 0; j < density; j++)
+        for (unsigned j = 0; j < halvings; j++)
             marks[i] &= drawn();
     }
 }
@@ -229,7 +233,8 @@ static void trailer(uint64_t root, uint64_t length, uint64_t first, uint64_t cou
     memcpy(pool + pool_words - 6, words, sizeof words);
 }
 
-/* A tree that leans to one side, one leaf lower at each fork, with balances that are claimed: deeper than any sound one. */
+/* A tree that leans to one side, a leaf beside each fork, with balances that are claimed: deeper than any sound one, too. No node is free, or
+ * more are than there are. */
 static void combs(void) {
     for (uint64_t forks = 1; forks <= 16; forks++)
         for (uint64_t balance = 0; balance < 5; balance++)
@@ -244,6 +249,8 @@ static void combs(void) {
                     for (uint64_t i = forks; i < nodes; i++)
                         leaf(i, 0, 0);
                     trailer(0, 33 * (forks + 1), nodes, 0);
+                    judged();
+                    trailer(0, 33 * (forks + 1), nodes, nodes + 1);
                     judged();
                 }
 }
@@ -284,7 +291,7 @@ static uint64_t place(int way, uint64_t length) {
     return way == FRONT ? 0 : way == BACK ? length : way == MIDDLE ? length / 2 : way == SECOND ? length < 40 ? length : 40 : drawn() % (length + 1);
 }
 
-/* Inserts by one way until so many are refused or the window holds so many, then removes by another until it is empty. */
+/* Inserts at places of one kind until the window holds so many marks or as many were tried, then removes at those of another until it is empty. */
 static void grown_and_shrunk(uint64_t nodes, uint64_t length, int in, int taken_out, uint64_t most) {
     build(nodes, length);
     for (uint64_t i = 0; list.length + listed < most && i < most; i++) {
@@ -348,6 +355,7 @@ int main(void) {
     refusals();
     for (uint64_t nodes = 1; nodes < 20; nodes += 2) {
         build(nodes, 64 * ((nodes + 1) / 2) - 31);
+        answered("run, no orders", sz_run(pool, pool_words, orders, 0, out, 0), SZ_DONE, 0);
         arguments();
         questions(1);
     }
