@@ -8,7 +8,8 @@
 #include "model.h"
 
 #define POOL_WORDS SZ_POOL_WORDS(MOST_NODES)
-#define LENT_WORDS (POOL_WORDS + 18)
+#define AFTER 18 /* words after a pool that are looked at, too */
+#define LENT_WORDS (POOL_WORDS + AFTER)
 #define MARK_WORDS 512
 #define OUT_WORDS 1040 /* more than any window here has */
 #define LIST 500
@@ -43,8 +44,9 @@ static void answered(const char *what, sz_answer got, uint64_t code, uint64_t va
     exit(1);
 }
 
+/* The words of the pool, and some after them: all that is looked at for a change. */
 static size_t kept_bytes(void) {
-    return (pool_words + 18) * sizeof *pool;
+    return (pool_words + AFTER) * sizeof *pool;
 }
 
 static void kept(void) {
@@ -159,7 +161,7 @@ static void questions(uint64_t step) {
 /* The refusals of every call, in the sequence of their tests: each call is wrong in everything that is tested later, too. */
 static void refusals(void) {
     static const size_t sizes[] = {0, 1, 5, 6, 7, 11, 13, 17, 6143, 6145, 6149, 6150, 6156};
-    pool_words = SZ_POOL_WORDS(3);
+    pool_words = POOL_WORDS;
     memset(pool, 0xff, sizeof pool);
     kept();
     for (size_t i = 0; i < sizeof sizes / sizeof *sizes; i++) {
@@ -168,6 +170,7 @@ static void refusals(void) {
         refused("values, size", sz_values(pool, sizes[i], out, 0), SZ_WRONG_SIZE);
         refused("run, size", sz_run(pool, sizes[i], orders, 1, out, 0), SZ_WRONG_SIZE);
     }
+    pool_words = SZ_POOL_WORDS(3);
     refused("build, too long", sz_build(pool, pool_words, marks, 2, 129), SZ_TOO_LONG);
     refused("build, too long by far", sz_build(pool, pool_words, marks, 2, ~0ULL), SZ_TOO_LONG);
     refused("build, no words", sz_build(pool, pool_words, marks, 0, 1), SZ_TOO_LONG);
