@@ -15,7 +15,8 @@ use Rattle.pool.specs.Node.{Put}
 use Rattle.pool.specs.declared.node.Fork.{Fork}
 use Rattle.pool.specs.declared.node.Node.the-variants as Node
 use Rattle.pool.proofs.Standing.{holds-same}
-use Rattle.build.specs.Waiting.{Along, Filled, Kept, Standing, Waits, fork-over, item-over}
+use Rattle.tree.specs.TreeAt.{TreeAt}
+use Rattle.build.specs.Waiting.{Along, FitsLeft, Kept, Waits, fork-over, item-over}
 use Rattle.build.specs.declared.building.Item.{Item}
 use Rattle.build.specs.declared.building.Row.{Row}
 
@@ -45,7 +46,7 @@ module _ (w w′ : List ℕ) (n m : ℕ) (kept : Kept w w′ n) (h : n ≤ m) wh
 
 -- ---- a leaf and a fork
 
-pub leaf-waits : {w w′ : List ℕ} {n : ℕ} (at total : ℕ) (xs : List Bool) → Put w w′ n (Node.Leaf (leaf-of xs)) → (0 < at → Filled total (leaf n xs))
+pub leaf-waits : {w w′ : List ℕ} {n : ℕ} (at total : ℕ) (xs : List Bool) → Put w w′ n (Node.Leaf (leaf-of xs)) → (0 < at → FitsLeft total (leaf n xs))
     → Waits w′ (suc n) at (leaf n xs) (record { node = n; total = total; height = 0 })
 unfolding top height numbers
 leaf-waits {n = n} at total xs p filled =
@@ -58,9 +59,11 @@ leaf-waits {n = n} at total xs p filled =
     }
 
 -- a tree that is not the rightmost stands as its item says
-pub waits-standing : {w : List ℕ} {n at : ℕ} {t : Tree} {x : Item} → Waits w n at t x → 0 < at → x .height ≤ levels → Standing w x t
+abbrev pub waits-standing : {w : List ℕ} {n at : ℕ} {t : Tree} {x : Item} → Waits w n at t x → 0 < at → x .height ≤ levels
+    → TreeAt w (x .node) levels (x .total)
 waits-standing {t = t} s some low =
     record {
+      tree = t;
       rooted = record {
         at = sym (s .node);
         holds = s .holds;

@@ -91,7 +91,7 @@ module _ {w w′ : List ℕ} {n at to : ℕ} (i : ℕ) (l r : Tree) {a b x : Ite
   pub join : n < nodes-in w → Forked w w′ n a b x → Joined w w′ n i l r x
   join h f =
       let over : _ = fork-over a b (count true (marks l)) in
-      let put : Put w w′ n (Node.Fork over) = rw (f .stored l (waits-standing p some low)) (put-fork w n over h) in
+      let put : Put w w′ n (Node.Fork over) = rw (f .stored (waits-standing p some low)) (put-fork w n over h) in
       record { size = put .size; kept = put-kept put; made = rw (f .item) (fork-waits n i l r a b put p q some more) }
 
 -- ---- the forks made, the last one first
@@ -166,7 +166,6 @@ module _ {w : List ℕ} {next : ℕ} {r : Row} {i : ℕ} {ts : List Tree} (level
   pair-joinable done (a ∷ b ∷ []) p h = absurd (omega (arith, p .left))
   pair-joinable done (a ∷ b ∷ c ∷ more) p h =
       record {
-        tree = b;
         stands = rw add-one (waits-standing (p .trees .1 .0) (omega arith) (omega (arith, low level some)));
         small = pair-small level some (i * 2 + 1) (i * 2);
       }
@@ -177,7 +176,6 @@ module _ {w : List ℕ} {next : ℕ} {r : Row} {i : ℕ} {ts : List Tree} (level
   last-joinable done (t ∷ []) p h = absurd (omega (arith, p .left))
   last-joinable done (a ∷ b ∷ []) p h =
       record {
-        tree = b;
         stands = waits-standing (p .trees .1) (omega arith) (omega (arith, low level some, level .not-higher));
         small = last-small level some (i * 2);
       }
@@ -192,7 +190,6 @@ module _ {w : List ℕ} {next : ℕ} {r : Row} {i : ℕ} {ts : List Tree} (level
       let n : ℕ = next + i in
       let j = join i b a (p .trees .1 .0) (p .trees .0) (omega arith) (λ q. omega arith) (omega (arith, low level some)) fits (rw add-one at f) in
       record {
-        tree = c;
         stands = waits-standing (waits-kept w w′ n (suc n) (j .kept) (omega arith) (p .trees .1 .1)) (omega arith)
             (omega (arith, low level some, level .not-higher));
         small = odd-small level some n (i * 2 + 1) (i * 2) x (f .item);

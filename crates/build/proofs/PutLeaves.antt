@@ -13,7 +13,7 @@ use Rattle.bits.specs.Leaf.{leaf-of}
 use Rattle.pool.specs.Node.{Put, leaf-cell, nodes-in, put}
 use Rattle.pool.specs.declared.node.Node.the-variants as Node
 use Rattle.pool.proofs.Cells.{put-leaf}
-use Rattle.build.specs.Waiting.{Along, Filled, Level, Waiting, Waits, leaf-row}
+use Rattle.build.specs.Waiting.{Along, FitsLeft, Level, Waiting, Waits, leaf-row}
 use Rattle.build.specs.declared.building.Item.{Item}
 use Rattle.build.proofs.Joining.{along-kept, leaf-waits, put-kept}
 use Rattle.build.proofs.OneRound.{leaf-full}
@@ -35,7 +35,7 @@ abbrev here : List Bool → ℕ → List Bool
 here xs i = take 64 (drop (i * 64) xs)
 
 -- a leaf that is not the last is filled
-leaf-filled : (n i : ℕ) (xs : List Bool) → suc i < leaf-count (length xs) → Filled 64 (leaf n (here xs i))
+leaf-filled : (n i : ℕ) (xs : List Bool) → suc i < leaf-count (length xs) → FitsLeft 64 (leaf n (here xs i))
 unfolding size
 leaf-filled n i xs h =
     let most = leaf-full i (length xs) h in

@@ -14,9 +14,10 @@ use Rattle.model.specs.Sound.{Sized}
 use Rattle.model.specs.Tree.{Tree, top, marks, size, height, numbers}
 use Rattle.model.specs.Word.{marks-of}
 use Rattle.pool.specs.Node.{fork-cell, node-at, nodes-in, put}
-use Rattle.pool.specs.Layout.{Chained, Holds, Rooted}
+use Rattle.pool.specs.Layout.{Chained, Holds}
 use Rattle.pool.specs.declared.chain.Chain.{Chain}
 use Rattle.pool.specs.declared.node.Fork.{Fork}
+use Rattle.tree.specs.TreeAt.{TreeAt}
 use Rattle.build.specs.declared.building.Item.{Item}
 use Rattle.build.specs.declared.building.Row.{Row}
 
@@ -70,11 +71,6 @@ abbrev pub item-over : ℕ → Item → Item → Item
 item-over n l r =
     record { node = n; total = l .total + r .total; height = suc (max (l .height) (r .height)) }
 
--- a tree that stands at an item's number and holds as many marks as it says
-pub record Standing (w : List ℕ) (x : Item) (t : Tree) : Type 0 where
-  pub rooted : Rooted w (x .node) levels t
-  pub total : size t ≡ x .total
-
 -- small enough to be joined: the balance is no less than -2, and all sums fit
 pub record Small (l r : Item) : Type 0 where
   pub even : l .height ≤ r .height + 2
@@ -84,19 +80,19 @@ pub record Small (l r : Item) : Type 0 where
 
 -- the left one's strikes can be counted, and both can be joined
 pub record Joinable (w : List ℕ) (l r : Item) : Type 0 where
-  pub tree : Tree
-  pub stands : Standing w l tree
+  pub stands : TreeAt w (l .node) levels (l .total)
   pub small : Small l r
 
 -- the words with their fork put at n, and what is then known of it
 pub record Forked (w w′ : List ℕ) (n : ℕ) (l r x : Item) : Type 0 where
   pub item : x ≡ item-over n l r
-  pub stored : (t : Tree) → Standing w l t → w′ ≡ put w n (fork-cell (fork-over l r (count true (marks t))))
+  pub stored : (s : TreeAt w (l .node) levels (l .total))
+      → w′ ≡ put w n (fork-cell (fork-over l r (count true (marks (s .tree)))))
 
 -- ---- the trees that wait
 
--- a tree of so many marks whose leaves are neither too full nor too empty, the last one included
-pub record Filled (total : ℕ) (t : Tree) : Type 0 where
+-- a tree of so many marks that can be a left child: no leaf is too full or too empty, the last one included
+pub record FitsLeft (total : ℕ) (t : Tree) : Type 0 where
   pub marks : total ≡ size t
   pub sized : Sized leaf-least t
 
@@ -105,7 +101,7 @@ pub record Filled (total : ℕ) (t : Tree) : Type 0 where
 pub record Waits (w : List ℕ) (n at : ℕ) (t : Tree) (x : Item) : Type 0 where
   pub node : x .node ≡ top t
   pub levels : x .height ≡ height t
-  pub filled : 0 < at → Filled (x .total) t
+  pub filled : 0 < at → FitsLeft (x .total) t
   pub holds : Holds w t
   pub below : (k : ℕ) → List·Memᴰ k (numbers t) → k < n
 
@@ -178,7 +174,7 @@ pub record Rounded (w w′ : List ℕ) (r made : Row) (next : ℕ) : Type 0 wher
       → Waiting w′ (next + (r .count - r .count / 2)) made (round next ts)
 
 -- after all rounds: whichever trees waited, the tree that the model makes of them stands
-pub record Grown (w w′ : List ℕ) (row : Row) (r : ℕ) : Type 0 where
+pub record AllJoined (w w′ : List ℕ) (row : Row) (r : ℕ) : Type 0 where
   pub kept : length w′ ≡ length w
   pub done : (ts : List Tree) → Waiting w (row .count) row ts
       → Finished w′ (2 * row .count - 1) (rounds (row .count) (row .count) ts) r

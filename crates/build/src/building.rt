@@ -20,7 +20,7 @@ ghost use Rattle.model.specs.Word.{bits as bits-in, marks-of};
 ghost use Rattle.bits.specs.Leaf.{leaf-of};
 ghost use Rattle.pool.specs.Node.{nodes-in};
 ghost use Rattle.build.specs.Built.{Room, BuiltAs};
-ghost use Rattle.build.specs.Waiting.{Forked, Freeing, Grown, Joinable, Leafy, Planted, Ready, Rounded};
+ghost use Rattle.build.specs.Waiting.{Forked, Freeing, AllJoined, Joinable, Leafy, Planted, Ready, Rounded};
 ghost use Rattle.build.specs.Waiting.{item-at, leaf-marks, row-above};
 
 // How many marks a built leaf takes, the last one perhaps fewer.
@@ -214,7 +214,7 @@ fn round(nodes: &mut [u64], row: Row, next: u64) -> Row
 // Round upon round until one tree is left; its number.
 fn rounds(nodes: &mut [u64], leaves: Row) -> u64
     requires { ⌜ (1 ≤ leaves .count) × Ready (now nodes) leaves (leaves .count) ⌝ }
-    ensures { λ r. ⌜ Grown (now (nodes .entry)) (now (nodes .exit)) leaves r ⌝ }
+    ensures { λ r. ⌜ AllJoined (now (nodes .entry)) (now (nodes .exit)) leaves r ⌝ }
 {
     let mut row = leaves;
     let mut next = leaves.count;

@@ -29,7 +29,8 @@ pub record Marked (met met′ ks : List ℕ) : Type 0 where
   pub kept : (k : ℕ) → met-at met k ≡ true → met-at met′ k ≡ true
   pub only : (k : ℕ) → met-at met′ k ≡ true → List·Memᴰ k ks ⊎ (met-at met k ≡ true)
 
--- what it says that node n is met now, where fewer nodes than so many may be
+-- what it says that node n is met now: it is fresh, and there is room for it, `room` being one more than the nodes that
+-- may still be met
 pub record Meets (met met′ : List ℕ) (n room : ℕ) (r : Bool) : Type 0 where
   pub yes : r ≡ true → (1 < room) × Fresh met (n ∷ []) × Marked met met′ (n ∷ [])
   pub no : 1 < room → Fresh met (n ∷ []) → r ≡ true

@@ -2,8 +2,8 @@
 use bits::WORD_BITS;
 ghost use Rattle.sound.specs.Met.{Meets};
 
-// Marks node n as met, where there is room for fewer than so many and it has not been met, and says whether that was
-// so. A number for which there is no bit counts as met.
+// Marks node n as met, and says whether it did. There has to be room for it, `room` being one more than the nodes that
+// may still be met, and it has not been met before; a number for which there is no bit counts as met.
 pub fn meet(met: &mut [u64], n: u64, room: u64) -> bool
     ensures { λ r. ⌜ Meets (now (met .entry)) (now (met .exit)) n room r ⌝ }
 {

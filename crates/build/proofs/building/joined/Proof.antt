@@ -23,7 +23,7 @@ rank-all t n e = ap (count true) (take-all n (marks t) (omega (arith, size-marks
 rank-requires : tie.Need-rank-requires
 rank-requires c κs =
     let p = c .before .before .pre in
-    (p .tree, p .stands .rooted, p .stands .total, omega arith)
+    (p .stands .tree, p .stands .rooted, p .stands .total, omega arith)
 
 returns : tie.Need-returns
 returns c =
@@ -33,8 +33,8 @@ returns c =
     let item : ℕ → Item = λ h. record { node = a .n; total = a .left .total + a .right .total; height = h } in
     record {
       item = ap item (c .above .ensures);
-      stored = λ t s.
-          let ones = counted .rank .ensures t (s .rooted) (s .total) ∙ rank-all t (a .left .total) (s .total) in
+      stored = λ s.
+          let ones = counted .rank .ensures (s .tree) (s .rooted) (s .total) ∙ rank-all (s .tree) (a .left .total) (s .total) in
           stored .set-fork .ensures ∙ ap (λ (k : ℕ). put (now (a .nodes)) (a .n) (fork-cell (fork-over (a .left) (a .right) k))) ones;
     }
 
