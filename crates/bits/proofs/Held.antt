@@ -2,13 +2,13 @@
 -- is meant, gives the leaf that holds the edited marks, or the list's own answer. The places 127 and the lengths 127 and 128 are
 -- among them.
 use Prim.Native.Nat.{ℕ, zero, suc, ◌+◌, ◌-◌, ◌≤◌, ◌<◌}
-use native.Mathlib.Nat.{div_eq_of_lt}
+use native.Mathlib.Nat.{div-eq_of_lt}
 use native.Mathlib.Omega.{arith}
 use mathlib.Core.Path.{◌≡◌, refl, sym, ap, ap₂, ◌∙◌}
 use mathlib.Core.Bool.{Bool, false}
-use mathlib.Core.List.{List, [], ◌∷◌, ◌++◌, append_assoc, append_nil}
-use lib.ListN.{length, take, drop, get_or, replicate, replicate_append_replicate, length_drop, drop_of_length_le, take_append_drop}
-use lib.Seq.{drop_nil, take_append_le, take_append_seam, take_all, length_take_le}
+use mathlib.Core.List.{List, [], ◌∷◌, ◌++◌, append_assoc, append-nil}
+use lib.ListN.{length, take, drop, get_or, replicate, replicate-append-replicate, length-drop, drop_of_length-le, take-append-drop}
+use lib.Seq.{drop-nil, take-append-le, take-append_seam, take_all, length-take-le}
 use Rattle.model.specs.Marks.{access, count, insert, rank, remove, select}
 use Rattle.model.specs.Word.{bits, number}
 use Rattle.model.proofs.Cases.{by_ltb}
@@ -22,7 +22,7 @@ use Rattle.bits.proofs.Packed.{packed_padded}
 drop_padded : (n m : ℕ) (xs : List Bool) → (k : ℕ) × (drop n (xs ++ replicate m false) ≡ drop n xs ++ replicate k false)
 drop_padded zero m xs = (m, refl)
 drop_padded (suc n) zero [] = (0, refl)
-drop_padded (suc n) (suc m) [] = let d = drop_padded n m [] in (d.0, d.1 ∙ ap (λ (ys : List Bool). ys ++ replicate d.0 false) (drop_nil n))
+drop_padded (suc n) (suc m) [] = let d = drop_padded n m [] in (d.0, d.1 ∙ ap (λ (ys : List Bool). ys ++ replicate d.0 false) (drop-nil n))
 drop_padded (suc n) m (x ∷ xs) = drop_padded n m xs
 
 -- zeros past the marks change no leaf
@@ -40,12 +40,12 @@ word_bits xs h =
     let width : 64 ≡ n + (64 - n) = omega arith in
     ap (λ (ys : List Bool). bits 64 (number ys)) (take_all 64 xs h)
     ∙ ap (λ (k : ℕ). bits k (number xs)) width ∙ bits_add n (64 - n) (number xs)
-    ∙ ap₂ (λ (ys zs : List Bool). ys ++ zs) (bits_number xs) (ap (bits (64 - n)) (div_eq_of_lt (number_lt xs)) ∙ bits_zero (64 - n))
+    ∙ ap₂ (λ (ys zs : List Bool). ys ++ zs) (bits_number xs) (ap (bits (64 - n)) (div-eq_of_lt (number_lt xs)) ∙ bits_zero (64 - n))
 
 -- a word holds the first 64 of many marks
 first_bits : (xs : List Bool) → 64 ≤ length xs → bits 64 (packed xs) ≡ take 64 xs
 unfolding packed
-first_bits xs h = rw (length_take_le 64 xs h) at (bits_number (take 64 xs))
+first_bits xs h = rw (length-take-le 64 xs h) at (bits_number (take 64 xs))
 
 -- the bits of a leaf that holds at most 128 marks
 pub held_bits : (xs : List Bool) → length xs ≤ 128 → bits_of (leaf_of xs) ≡ xs ++ replicate (128 - length xs) false
@@ -55,18 +55,18 @@ held_bits xs h = by_ltb (length xs) 64 (λ e l. few l) (λ e l. many l)
     few : length xs < 64 → bits 64 (packed xs) ++ bits 64 (packed (drop 64 xs)) ≡ xs ++ replicate (128 - length xs) false
     few l =
         let width : (64 - length xs) + 64 ≡ 128 - length xs = omega arith in
-        let nothing = ap (λ (ys : List Bool). bits 64 (packed ys)) (drop_of_length_le xs {i = 64} (omega arith)) ∙ word_bits [] (omega arith) in
+        let nothing = ap (λ (ys : List Bool). bits 64 (packed ys)) (drop_of_length-le xs {i = 64} (omega arith)) ∙ word_bits [] (omega arith) in
         ap₂ (λ (ys zs : List Bool). ys ++ zs) (word_bits xs (omega arith)) nothing
         ∙ append_assoc xs (replicate (64 - length xs) false) (replicate 64 false)
-        ∙ ap (λ (ys : List Bool). xs ++ ys) (replicate_append_replicate (64 - length xs) 64 false ∙ ap (λ (n : ℕ). replicate n false) width)
+        ∙ ap (λ (ys : List Bool). xs ++ ys) (replicate-append-replicate (64 - length xs) 64 false ∙ ap (λ (n : ℕ). replicate n false) width)
 
     many : 64 ≤ length xs → bits 64 (packed xs) ++ bits 64 (packed (drop 64 xs)) ≡ xs ++ replicate (128 - length xs) false
     many l =
-        let rest : length (drop 64 xs) ≡ length xs - 64 = length_drop 64 xs in
+        let rest : length (drop 64 xs) ≡ length xs - 64 = length-drop 64 xs in
         let width : 64 - length (drop 64 xs) ≡ 128 - length xs = omega arith in
         ap₂ (λ (ys zs : List Bool). ys ++ zs) (first_bits xs l) (word_bits (drop 64 xs) (omega arith))
         ∙ sym (append_assoc (take 64 xs) (drop 64 xs) (replicate (64 - length (drop 64 xs)) false))
-        ∙ ap₂ (λ (ys : List Bool) (n : ℕ). ys ++ replicate n false) (take_append_drop 64 xs) width
+        ∙ ap₂ (λ (ys : List Bool) (n : ℕ). ys ++ replicate n false) (take-append-drop 64 xs) width
 
 getD_padded : (i m : ℕ) (xs : List Bool) → get_or (xs ++ replicate m false) i false ≡ get_or xs i false
 getD_padded i zero [] = refl
@@ -92,18 +92,18 @@ module _ (xs : List Bool) where
       → leaf_of (take (length xs) (bits_of (leaf_of xs)) ++ bits_of (leaf_of ys)) ≡ leaf_of (xs ++ ys)
   join_held ys h =
       ap₂ (λ (us vs : List Bool). leaf_of (take (length xs) us ++ vs)) (held_bits xs (omega arith)) (held_bits ys (omega arith))
-      ∙ ap (λ (us : List Bool). leaf_of (us ++ (ys ++ replicate (128 - length ys) false))) (take_append_seam xs (replicate (128 - length xs) false))
+      ∙ ap (λ (us : List Bool). leaf_of (us ++ (ys ++ replicate (128 - length ys) false))) (take-append_seam xs (replicate (128 - length xs) false))
       ∙ ap leaf_of (sym (append_assoc xs ys (replicate (128 - length ys) false))) ∙ leaf_padded (128 - length ys) (xs ++ ys)
 
   -- a leaf of 128 marks is split in the middle
   pub split_held : length xs ≡ 128 → halves_of (bits_of (leaf_of xs)) ≡ halves_of xs
-  split_held e = ap halves_of (held_bits xs (omega arith) ∙ rw e (append_nil xs))
+  split_held e = ap halves_of (held_bits xs (omega arith) ∙ rw e (append-nil xs))
 
   pub rank_held : (b : Bool) (end : ℕ) → length xs ≤ 128 → end ≤ length xs → rank b end (bits_of (leaf_of xs)) ≡ rank b end xs
   unfolding rank
   rank_held b end h l =
       ap (λ (ys : List Bool). count b (take end ys)) (held_bits xs h)
-      ∙ ap (count b) (take_append_le end xs (replicate (128 - length xs) false) l)
+      ∙ ap (count b) (take-append-le end xs (replicate (128 - length xs) false) l)
 
   -- past the marks both are quiet
   pub access_held : (i : ℕ) → length xs ≤ 128 → access i (bits_of (leaf_of xs)) ≡ access i xs

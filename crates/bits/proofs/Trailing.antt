@@ -1,14 +1,14 @@
 -- The zeros below the lowest one of a word: they are all quiet, and right above them stands a one.
 use Prim.Native.Nat.{ℕ, zero, suc, ◌+◌, ◌-◌, ◌/◌, ◌%◌, ◌^◌, ◌≤◌, ◌<◌}
-use native.Mathlib.Nat.{div_one}
-use native.Mathlib.Numerals.{one_add}
+use native.Mathlib.Nat.{div-one}
+use native.Mathlib.Numerals.{one-add}
 use native.Mathlib.Omega.{arith}
 use mathlib.Core.Path.{◌≡◌, refl, ap, ◌∙◌}
 use mathlib.Core.Bool.{Bool, false}
 use mathlib.Core.List.{List, ◌∷◌, ◌++◌}
 use lib.Count.{count_trailing_zeros}
 use lib.ListN.{replicate}
-use lib.Pow.{shr_shr}
+use lib.Pow.{shr-shr}
 use Rattle.model.specs.Word.{bits, odd}
 use Rattle.model.proofs.Cases.{by_ltb}
 use Rattle.model.proofs.Words.{bits_add}
@@ -37,8 +37,8 @@ one_above (suc k) r l =
     (λ e.
     let t : ℕ = count_trailing_zeros k (r / 2) in
     let m : suc t < suc k = rw e at l in
-    rw (e, ← one_add t, ← shr_shr r 1 t) (one_above k (r / 2) (omega arith)))
-    (λ e. rw (e, div_one r) e)
+    rw (e, ← one-add t, ← shr-shr r 1 t) (one_above k (r / 2) (omega arith)))
+    (λ e. rw (e, div-one r) e)
 
 -- the lowest bits of a number, and those above them
 pub bits_split : (k n r : ℕ) → k ≤ n → bits n r ≡ bits k r ++ bits (n - k) (r / 2 ^ k)

@@ -1,14 +1,14 @@
 -- A leaf's 128 bits are its low word's 64 and then its high word's 64. Each edit of the list falls apart into edits of the words;
 -- what moves from one word to the other is one bit, or the top of a word.
 use Prim.Native.Nat.{ℕ, suc, ◌+◌, ◌-◌, ◌/◌, ◌%◌, ◌^◌, ◌≤◌, ◌<◌, min}
-use native.Mathlib.Numerals.{add_one}
+use native.Mathlib.Numerals.{add-one}
 use native.Mathlib.Omega.{arith}
 use mathlib.Core.Path.{◌≡◌, refl, sym, ap, ap₂, ◌∙◌}
 use mathlib.Core.Bool.{Bool, true, false}
-use mathlib.Core.List.{List, [], ◌∷◌, ◌++◌, append_assoc, append_nil}
-use lib.ListN.{length, take, drop, length_append, length_take, get_or_append, get_or_eq_default}
-use lib.Pow.{shr_shr}
-use lib.Seq.{length_take_le, take_append_le, take_append_add, take_all, drop_at, take_at, get_or_append_add}
+use mathlib.Core.List.{List, [], ◌∷◌, ◌++◌, append_assoc, append-nil}
+use lib.ListN.{length, take, drop, length-append, length-take, get_or-append, get_or-eq_default}
+use lib.Pow.{shr-shr}
+use lib.Seq.{length-take-le, take-append-le, take-append-add, take_all, drop_at, take_at, get_or-append-add}
 use Rattle.model.specs.Marks.{access, insert, ones, rank, count, remove, wanted}
 use Rattle.model.specs.Word.{odd, bits, number}
 use Rattle.model.proofs.Cases.{by_test}
@@ -38,7 +38,7 @@ insert_front x xs = refl
 -- a word alone
 lone : (a : ℕ) → a < 2 ^ 64 → ◌≡◌ {A = Leaf} (record { low = a; high = 0 }) (leaf_of (bits 64 a))
 unfolding packed number
-lone a h = leaf_is (bits 64 a) (bits 64 a) [] (sym (append_nil (bits 64 a))) (bits_length 64 a) (sym (packed_own a h)) refl
+lone a h = leaf_is (bits 64 a) (bits 64 a) [] (sym (append-nil (bits 64 a))) (bits_length 64 a) (sym (packed_own a h)) refl
 
 remove_front : (x : Bool) (xs : List Bool) → remove 0 (x ∷ xs) ≡ xs
 unfolding remove
@@ -59,7 +59,7 @@ module _ (self : Leaf) where
   last_apart = ap (λ (xs : List Bool). xs ++ bits 64 b) (bits_add 63 1 a) ∙ append_assoc (bits 63 a) (odd (a / 2 ^ 63) ∷ []) (bits 64 b)
 
   pub both_length : length (bits 64 a ++ bits 64 b) ≡ 128
-  both_length = length_append (bits 64 a) (bits 64 b) ∙ ap₂ (λ (x y : ℕ). x + y) (bits_length 64 a) (bits_length 64 b)
+  both_length = length-append (bits 64 a) (bits 64 b) ∙ ap₂ (λ (x y : ℕ). x + y) (bits_length 64 a) (bits_length 64 b)
 
   -- an edit of the high word leaves the low one
   high_edit : (a < 2 ^ 64) → (xs rest : List Bool) {high : ℕ} → xs ≡ bits 64 a ++ rest → high ≡ packed rest
@@ -129,7 +129,7 @@ module _ (self : Leaf) where
         let n : length (bits 64 a) ≡ 64 = bits_length 64 a in
         let fits : i < length (bits 64 a) = omega arith in
         let size : length (remove i (bits 64 a) ++ odd b ∷ []) ≡ 64 =
-        length_append (remove i (bits 64 a)) (odd b ∷ []) ∙ add_one (length (remove i (bits 64 a))) ∙ length_remove i (bits 64 a) fits ∙ n in
+        length-append (remove i (bits 64 a)) (odd b ∷ []) ∙ add-one (length (remove i (bits 64 a))) ∙ length_remove i (bits 64 a) fits ∙ n in
         leaf_is _ (remove i (bits 64 a) ++ odd b ∷ []) (bits 63 (b / 2))
         (remove_first i (bits 64 a) (bits 64 b) fits ∙ sym (append_assoc (remove i (bits 64 a)) (odd b ∷ []) (bits 63 (b / 2)))) size l
         (m ∙ packed_padded 1 (remove 0 (bits 64 b)) ∙ ap packed (remove_front (odd b) (bits 63 (b / 2))))
@@ -171,13 +171,13 @@ module _ (self : Leaf) where
         let width : 64 ≡ (64 - n) + n = omega arith in
         let cut : bits 64 c ≡ bits (64 - n) c ++ top = ap (λ (x : ℕ). bits x c) width ∙ bits_add (64 - n) n c in
         let shift : (63 - n) + 1 ≡ 64 - n = omega arith in
-        let above = e ∙ shr_shr c (63 - n) 1 ∙ ap (λ (x : ℕ). c / 2 ^ x) shift in
+        let above = e ∙ shr-shr c (63 - n) 1 ∙ ap (λ (x : ℕ). c / 2 ^ x) shift in
         let carried : take n (bits 64 _) ≡ top = take_bits n 64 _ (omega arith) ∙ ap (bits n) above in
         let size : length first ≡ 64 =
-        length_append (take n (bits 64 a)) (bits (64 - n) c)
-        ∙ ap₂ (λ (x y : ℕ). x + y) (length_take_le n (bits 64 a) (omega arith)) (bits_length (64 - n) c) ∙ omega arith in
+        length-append (take n (bits 64 a)) (bits (64 - n) c)
+        ∙ ap₂ (λ (x y : ℕ). x + y) (length-take-le n (bits 64 a) (omega arith)) (bits_length (64 - n) c) ∙ omega arith in
         leaf_is _ first (top ++ bits 64 d)
-        (ap₂ (λ (xs ys : List Bool). xs ++ (ys ++ bits 64 d)) (take_append_le n (bits 64 a) (bits 64 b) (omega arith)) cut
+        (ap₂ (λ (xs ys : List Bool). xs ++ (ys ++ bits 64 d)) (take-append-le n (bits 64 a) (bits 64 b) (omega arith)) cut
         ∙ simp append_assoc) size
         (l ∙ ap (λ (xs : List Bool). packed (take n (bits 64 a) ++ xs)) cut
         ∙ ap packed (sym (append_assoc (take n (bits 64 a)) (bits (64 - n) c) top))
@@ -192,9 +192,9 @@ module _ (self : Leaf) where
         let at : length (bits 64 a) + (n - 64) ≡ n = omega arith in
         let front : List Bool = take (n - 64) (bits 64 b) in
         high_edit h _ (front ++ (bits 64 c ++ bits 64 d))
-        (ap (λ (xs : List Bool). xs ++ (bits 64 c ++ bits 64 d)) (rw at at (take_append_add (bits 64 a) (bits 64 b) (n - 64)))
+        (ap (λ (xs : List Bool). xs ++ (bits 64 c ++ bits 64 d)) (rw at at (take-append-add (bits 64 a) (bits 64 b) (n - 64)))
         ∙ append_assoc (bits 64 a) front (bits 64 c ++ bits 64 d))
-        (m ∙ sym (packed_enough (front ++ bits 64 c) (bits 64 d) (rw length_append (omega arith)))
+        (m ∙ sym (packed_enough (front ++ bits 64 c) (bits 64 d) (rw length-append (omega arith)))
         ∙ ap packed (append_assoc front (bits 64 c) (bits 64 d)))
 
     pub join_none : a < 2 ^ 64 → b < 2 ^ 64 → 128 ≤ n → ◌≡◌ {A = Leaf} (record { low = a; high = b }) (leaf_of joined)
@@ -217,21 +217,21 @@ module _ (self : Leaf) where
   module _ (i : ℕ) where
     pub bit_low : i < 64 → odd (a / 2 ^ i) ≡ access i (bits 64 a ++ bits 64 b)
     unfolding access
-    bit_low h = sym (get_or_append (bits 64 a) (bits 64 b) false i (omega (arith, bits_length 64 a)) ∙ bits_at 64 a i h)
+    bit_low h = sym (get_or-append (bits 64 a) (bits 64 b) false i (omega (arith, bits_length 64 a)) ∙ bits_at 64 a i h)
 
     pub bit_high : 64 ≤ i → i < 128 → odd (b / 2 ^ (i - 64)) ≡ access i (bits 64 a ++ bits 64 b)
     unfolding access
     bit_high h l =
         let at : length (bits 64 a) + (i - 64) ≡ i = omega (arith, bits_length 64 a) in
-        sym (rw at at (get_or_append_add (bits 64 a) (bits 64 b) (i - 64) false) ∙ bits_at 64 b (i - 64) (omega arith))
+        sym (rw at at (get_or-append-add (bits 64 a) (bits 64 b) (i - 64) false) ∙ bits_at 64 b (i - 64) (omega arith))
 
     pub bit_none : 128 ≤ i → false ≡ access i (bits 64 a ++ bits 64 b)
     unfolding access
-    bit_none h = sym (get_or_eq_default (bits 64 a ++ bits 64 b) false (omega (arith, both_length)))
+    bit_none h = sym (get_or-eq_default (bits 64 a ++ bits 64 b) false (omega (arith, both_length)))
 
     pub ones_low : i ≤ 64 → ones (take i (bits 64 a)) ≡ rank true i (bits 64 a ++ bits 64 b)
     unfolding rank count wanted
-    ones_low h = ap ones (sym (take_append_le i (bits 64 a) (bits 64 b) (omega (arith, bits_length 64 a))))
+    ones_low h = ap ones (sym (take-append-le i (bits 64 a) (bits 64 b) (omega (arith, bits_length 64 a))))
 
     pub ones_both : 64 ≤ i → ones (take i (bits 64 a)) + ones (take (i - 64) (bits 64 b)) ≡ rank true i (bits 64 a ++ bits 64 b)
     unfolding rank count wanted
@@ -240,13 +240,13 @@ module _ (self : Leaf) where
         let at : length (bits 64 a) + (i - 64) ≡ i = omega arith in
         ap (λ (xs : List Bool). ones xs + ones (take (i - 64) (bits 64 b))) (take_all i (bits 64 a) (omega arith))
         ∙ sym (ones_append (bits 64 a) (take (i - 64) (bits 64 b)))
-        ∙ ap ones (sym (rw at at (take_append_add (bits 64 a) (bits 64 b) (i - 64))))
+        ∙ ap ones (sym (rw at at (take-append-add (bits 64 a) (bits 64 b) (i - 64))))
 
     -- strikes and quiets before a place make up the place, as far as the leaf reaches
     pub rank_both : rank true i (bits 64 a ++ bits 64 b) + rank false i (bits 64 a ++ bits 64 b) ≡ min i 128
     unfolding rank
-    rank_both = count_both (take i (bits 64 a ++ bits 64 b)) ∙ length_take i (bits 64 a ++ bits 64 b) ∙ ap (min i) both_length
+    rank_both = count_both (take i (bits 64 a ++ bits 64 b)) ∙ length-take i (bits 64 a ++ bits 64 b) ∙ ap (min i) both_length
 
 -- a word has at most 64 set bits before any place
 pub ones_most : (n w : ℕ) → ones (take n (bits 64 w)) ≤ 64
-ones_most n w = omega (arith, ones_le (take n (bits 64 w)), length_take n (bits 64 w), bits_length 64 w)
+ones_most n w = omega (arith, ones_le (take n (bits 64 w)), length-take n (bits 64 w), bits_length 64 w)

@@ -1,8 +1,8 @@
 -- One round as the code goes through it: so many pairs joined, and the trees from there on still waiting. What is left of the round is a round
 -- on the trees that wait, as long as two are left; then the last pair is joined, and an odd tree to it.
 use Prim.Native.Nat.{ℕ, zero, suc, ◌+◌, ◌*◌, ◌/◌, ◌^◌, ◌≤◌, ◌<◌, max}
-use native.Mathlib.Nat.{add_zero, pow_suc}
-use native.Mathlib.Numerals.{add_one}
+use native.Mathlib.Nat.{add-zero, pow-suc}
+use native.Mathlib.Numerals.{add-one}
 use native.Mathlib.Omega.{arith}
 use mathlib.Core.Path.{◌≡◌, refl, ap, ◌∙◌}
 use mathlib.Core.Bool.{true}
@@ -59,7 +59,7 @@ module _ {n : ℕ} {r : Row} (p : Level n r) (some : 2 ≤ r.count) where
 -- the row after a round is level again
 halved : (c left : ℕ) → c < 2 ^ left → 2 ≤ c → (more : ℕ) × (left ≡ suc more) × (c / 2 < 2 ^ more)
 halved c zero few some = absurd (omega arith)
-halved c (suc more) few some = (more, refl, omega (arith, pow_suc 2 more))
+halved c (suc more) few some = (more, refl, omega (arith, pow-suc 2 more))
 
 module _ {next : ℕ} {r : Row} (p : Level next r) (some : 2 ≤ r.count) (m : ℕ) (y : Item) where
   pub level_above : next < m → y.total ≤ 4 * r.total → suc r.height ≤ y.height → y.height ≤ suc (suc r.height)
@@ -70,7 +70,7 @@ module _ {next : ℕ} {r : Row} (p : Level next r) (some : 2 ≤ r.count) (m : �
         left = more;
         few = few;
         low = omega (arith, p.low);
-        total = omega (arith, p.total, pow_suc 2 r.height);
+        total = omega (arith, p.total, pow-suc 2 r.height);
         last_total = omega arith;
         not_lower = higher;
         not_higher = most;
@@ -130,11 +130,11 @@ no_pair {next = next} {ts = ts} p = (
   [],
   ts,
   record {
-    whole = ap (λ (n : ℕ). round n ts) (add_zero next);
+    whole = ap (λ (n : ℕ). round n ts) (add-zero next);
     many = refl;
     left = omega arith;
     new = tt;
-    trees = rw add_zero p.trees;
+    trees = rw add-zero p.trees;
   },
 )
 
@@ -166,7 +166,7 @@ module _ {w : List ℕ} {next : ℕ} {r : Row} {i : ℕ} {ts : List Tree} (level
   pair_joinable done (a ∷ b ∷ []) p h = absurd (omega (arith, p.left))
   pair_joinable done (a ∷ b ∷ c ∷ more) p h =
       record {
-        stands = rw add_one (waits_standing p.trees.1.0 (omega arith) (omega (arith, low level some)));
+        stands = rw add-one (waits_standing p.trees.1.0 (omega arith) (omega (arith, low level some)));
         small = pair_small level some (i * 2 + 1) (i * 2);
       }
 
@@ -188,7 +188,7 @@ module _ {w : List ℕ} {next : ℕ} {r : Row} {i : ℕ} {ts : List Tree} (level
   odd_joinable done (a ∷ b ∷ []) p h fits f = absurd (omega (arith, p.left))
   odd_joinable {w'} {x} done (a ∷ b ∷ c ∷ []) p h fits f =
       let n : ℕ = next + i in
-      let j = join i b a p.trees.1.0 p.trees.0 (omega arith) (λ q. omega arith) (omega (arith, low level some)) fits (rw add_one at f) in
+      let j = join i b a p.trees.1.0 p.trees.0 (omega arith) (λ q. omega arith) (omega (arith, low level some)) fits (rw add-one at f) in
       record {
         stands = waits_standing (waits_kept w w' n (suc n) j.kept (omega arith) p.trees.1.1) (omega arith)
             (omega (arith, low level some, level.not_higher));
@@ -206,7 +206,7 @@ module _ {w : List ℕ} {next : ℕ} {r : Row} {i : ℕ} {ts : List Tree} (level
   pair_more done (a ∷ b ∷ c ∷ []) p four fits f = absurd (omega (arith, p.left))
   pair_more {w'} {x} done (a ∷ b ∷ c ∷ d ∷ more) p four fits f =
       let n : ℕ = next + i in
-      let j = join i b a p.trees.1.0 p.trees.0 (omega arith) (λ q. omega arith) (omega (arith, low level some)) fits (rw add_one at f) in
+      let j = join i b a p.trees.1.0 p.trees.0 (omega arith) (λ q. omega arith) (omega (arith, low level some)) fits (rw add-one at f) in
       let many = p.many in
       let is : x ≡ item_at (row_above r next r.last) i = f.item ∙ pair_item r next i (i * 2 + 1) (i * 2) r.last in
       let next_is : next + suc i ≡ suc n = omega arith in
@@ -255,7 +255,7 @@ module _ {w : List ℕ} {next : ℕ} {r : Row} {i : ℕ} {ts : List Tree} (level
   odd_ends {w' = w'} {w'' = w''} {x = x} {y = y} done (a ∷ l ∷ o ∷ []) b p three fits f g =
       let n : ℕ = next + i in
       let j = join i l a p.trees.1.0 p.trees.0 (omega arith) (λ q. omega arith) (omega (arith, low level some)) (omega arith)
-      (rw add_one at f) in
+      (rw add-one at f) in
       let waits = waits_kept w w' n (suc n) j.kept (omega arith) p.trees.1.1 in
       let k = join i o (fork n l a) waits j.made (omega arith) (λ q. q) (omega (arith, low level some, level.not_higher))
       (omega (arith, j.size)) g in

@@ -6,7 +6,7 @@ use mathlib.Core.Path.{◌≡◌, sym, ◌∙◌}
 use mathlib.Core.Bool.{Bool}
 use mathlib.Core.List.{List}
 use lib.ListN.{length, take}
-use lib.Seq.{length_take_le}
+use lib.Seq.{length-take-le}
 use Rattle.model.specs.Contract.{Pinned}
 use Rattle.model.specs.Build.{leaf_count}
 use Rattle.model.specs.Pool.{nodes_for}
@@ -28,7 +28,7 @@ build_pinned κs a r r' w w' room p q =
     let n : ℕ = nodes_in a.0.now in
     let total : ℕ = a.1.1.0 in
     let xs : List Bool = take total (marks_of a.1.0.now) in
-    let all : length xs ≡ total = length_take_le total (marks_of a.1.0.now) (omega (arith, marks_of_length a.1.0.now, room.given)) in
+    let all : length xs ≡ total = length-take-le total (marks_of a.1.0.now) (omega (arith, marks_of_length a.1.0.now, room.given)) in
     let fits : 2 * leaf_count (length xs) - 1 ≤ n = rw all room.enough in
     let (pool, e) = builds n xs fits in
     let s = p pool e in

@@ -4,8 +4,8 @@ use native.Mathlib.Omega.{arith}
 use mathlib.Core.Path.{◌≡◌, ap, ◌∙◌}
 use mathlib.Core.Bool.{Bool}
 use mathlib.Core.List.{List, [], ◌∷◌, reverse, reverse_aux}
-use lib.ListN.{length, take, drop, length_drop, length_reverse, length_take}
-use lib.Seq.{drop_drop}
+use lib.ListN.{length, take, drop, length-drop, length-reverse, length-take}
+use lib.Seq.{drop-drop}
 use Rattle.model.specs.Build.{built_leaves, leaf_count}
 use Rattle.model.specs.Tree.{Tree, leaf, size}
 use Rattle.model.proofs.Rounds.{built_leaves_length}
@@ -39,7 +39,7 @@ leaf_filled : (n i : ℕ) (xs : List Bool) → suc i < leaf_count (length xs) �
 unfolding size
 leaf_filled n i xs h =
     let most = leaf_full i (length xs) h in
-    let all : length (here xs i) ≡ 64 = omega (arith, length_take 64 (drop (i * 64) xs), length_drop (i * 64) xs) in
+    let all : length (here xs i) ≡ 64 = omega (arith, length-take 64 (drop (i * 64) xs), length-drop (i * 64) xs) in
     record { marks = omega arith; sized = omega arith }
 
 -- a leaf in front of those that stand
@@ -58,7 +58,7 @@ module _ {w : List ℕ} {xs : List Bool} {leaves i : ℕ} (w' : List ℕ) (b : B
   one_begun f =
       let k : leaves - i ≡ suc (leaves - suc i) = omega arith in
       let past : i * 64 + 64 ≡ suc i * 64 = omega arith in
-      let next : drop 64 (drop (i * 64) xs) ≡ drop (suc i * 64) xs = drop_drop 64 (i * 64) xs ∙ ap (λ (n : ℕ). drop n xs) past in
+      let next : drop 64 (drop (i * 64) xs) ≡ drop (suc i * 64) xs = drop-drop 64 (i * 64) xs ∙ ap (λ (n : ℕ). drop n xs) past in
       let stored : Put w w' i (Node.Leaf (leaf_of (here xs i))) = rw f (put_leaf w i (leaf_of (here xs i)) fits) in
       let older : Along w i (leaf_row leaves) (suc (leaves - suc i)) b.seen = rw k at b.trees in
       let all : reverse_aux (built_leaves i (suc (leaves - suc i)) (drop (i * 64) xs)) b.seen ≡ reverse (built_leaves 0 leaves xs) =
@@ -94,7 +94,7 @@ all_begun {w} {xs} {leaves} {i} b e some few =
     let none : leaves - i ≡ 0 = omega arith in
     let same : b.seen ≡ reverse (built_leaves 0 leaves xs) = rw none at b.all in
     record {
-      many = simp (length_reverse, built_leaves_length);
+      many = simp (length-reverse, built_leaves_length);
       trees = rw (← same) (rw (none, e) at b.trees);
       level = leaves_level leaves some few;
     }

@@ -8,7 +8,7 @@ use mathlib.Core.Bool.{Bool}
 use mathlib.Core.List.{List, [], ◌∷◌, map}
 use mathlib.Core.Option.{some}
 use lib.ListN.{length}
-use borrow.Author.Tests.{le_leb, lt_ltb}
+use borrow.Author.Tests.{le-leb, lt-ltb}
 use Rattle.model.specs.Limits.{least_full}
 use Rattle.model.specs.Pool as Pool
 use Rattle.model.specs.Pool.{Pool}
@@ -44,11 +44,11 @@ unfolding after_all Serve.after order_of
 becomes_after [] p q e = e
 becomes_after (put i b ∷ cs) p q d =
     let m = size_marks p.tree in
-    let next : after (inserting i b) p ≡ d.1 = rw (Serve.after, le_leb i (length (marks p.tree)) (omega (arith, d.0)), d.2) in
+    let next : after (inserting i b) p ≡ d.1 = rw (Serve.after, le-leb i (length (marks p.tree)) (omega (arith, d.0)), d.2) in
     ap (after_all (map order_of cs)) next ∙ becomes_after cs d.1 q d.3
 becomes_after (out i ∷ cs) p q d =
     let m = size_marks p.tree in
-    let next : after (removing i) p ≡ Pool.remove i p = rw (Serve.after, lt_ltb i (length (marks p.tree)) (omega (arith, d.0))) in
+    let next : after (removing i) p ≡ Pool.remove i p = rw (Serve.after, lt-ltb i (length (marks p.tree)) (omega (arith, d.0))) in
     ap (after_all (map order_of cs)) next ∙ becomes_after cs (Pool.remove i p) q d.1
 
 -- a build and orders lead to a pool that holds just so many marks and has no room

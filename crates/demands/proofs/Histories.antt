@@ -7,7 +7,7 @@ use mathlib.Core.Path.{◌≡◌, refl, sym, ap, ap₂, ◌∙◌}
 use mathlib.Core.Bool.{Bool}
 use mathlib.Core.List.{List, ◌++◌}
 use lib.ListN.{length, take, drop}
-use lib.Seq.{length_take_le}
+use lib.Seq.{length-take-le}
 use Rattle.model.specs.Pool as Pool
 use Rattle.model.specs.Pool.{Pool}
 use Rattle.model.specs.Tree.{marks, size}
@@ -73,7 +73,7 @@ module _ {slice words : List ℕ} {len : ℕ} {begun orders ws told : List ℕ} 
   -- ---- what check tells and values writes
 
   given_length : length (given words len) ≡ len
-  given_length = length_take_le len (marks_of words) (omega (arith, marks_of_length words, b.enough))
+  given_length = length-take-le len (marks_of words) (omega (arith, marks_of_length words, b.enough))
 
   pub by_count : (count : ℕ) → Checked ws (Done count) → count + done 2 (log orders told) ≡ len + done 1 (log orders told)
   unfolding value

@@ -7,7 +7,7 @@ use mathlib.Core.Bool.{Bool, true, false, ◌&&◌}
 use mathlib.Core.List.{List, [], ◌∷◌}
 use lib.Dec.{eqb}
 use lib.ListN.{length}
-use borrow.Author.Tests.{eqb_true, eqb_false, eq_eqb}
+use borrow.Author.Tests.{eqb-true, eqb-false, eq-eqb}
 use Rattle.model.specs.Marks as Marks
 use Rattle.model.specs.Pool.{Pool}
 use Rattle.model.specs.Tree.{marks}
@@ -58,18 +58,18 @@ remove_done i p e =
 module _ (number : ℕ) (e : Entry) where
   counts_done : e.code ≡ 0 → e.number ≡ number → counts number e ≡ 1
   unfolding counts
-  counts_done c n = rw (counts, c, eq_eqb e.number number n)
+  counts_done c n = rw (counts, c, eq-eqb e.number number n)
 
   counts_other : (e.number ≡ number → ⊥) → counts number e ≡ 0
   unfolding counts
   counts_other n =
       by_test (eqb e.code 0)
-      (λ t. by_test (eqb e.number number) (λ u. absurd (n (eqb_true e.number number u))) (λ u. rw (counts, t, u)))
+      (λ t. by_test (eqb e.number number) (λ u. absurd (n (eqb-true e.number number u))) (λ u. rw (counts, t, u)))
       (λ t. rw (counts, t))
 
   counts_refused : (e.code ≡ 0 → ⊥) → counts number e ≡ 0
   unfolding counts
-  counts_refused c = by_test (eqb e.code 0) (λ t. absurd (c (eqb_true e.code 0 t))) (λ t. rw (counts, t))
+  counts_refused c = by_test (eqb e.code 0) (λ t. absurd (c (eqb-true e.code 0 t))) (λ t. rw (counts, t))
 
 -- ---- one order
 
@@ -130,13 +130,13 @@ unfolding Serve.answer Serve.no_room list_answer code
 kept n x y p =
     by_test (eqb (code (answer (asks n x y) p)) 0)
     (λ t.
-    let e = eqb_true (code (answer (asks n x y) p)) 0 t in
+    let e = eqb-true (code (answer (asks n x y) p)) 0 t in
     by_kind n x y
     (λ b one bit a. rw one (inserted x y b p (rw one at a) (rw one at e)))
     (λ two a. rw two (removed x y p (rw two at a) (rw two at e)))
     (λ q. left n x y p (λ one. omega (arith, q.number)) (λ two. omega (arith, q.number)) (q.leaves p))
     (λ u. absurd (omega (arith, rw u at e))))
-    (λ t. refused n x y p (eqb_false (code (answer (asks n x y) p)) 0 t))
+    (λ t. refused n x y p (eqb-false (code (answer (asks n x y) p)) 0 t))
 
 -- ---- a whole list of orders, in words
 

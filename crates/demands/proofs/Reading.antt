@@ -1,13 +1,13 @@
 -- From the words of the calls to the pools that stand in them: what accepted runs have done to the pool, and what they have told.
 use Prim.Native.Nat.{ℕ, zero, suc, ◌+◌, ◌-◌, ◌*◌, ◌/◌, ◌%◌, ◌≤◌, ◌<◌}
-use native.Mathlib.Nat.{add_zero}
+use native.Mathlib.Nat.{add-zero}
 use native.Mathlib.Omega.{arith}
 use mathlib.Core.Path.{◌≡◌, refl, sym, ap, ap₂, ◌∙◌}
 use mathlib.Core.Bool.{Bool}
 use mathlib.Core.List.{List, [], ◌∷◌, ◌++◌, append_assoc}
 use mathlib.Core.Option.{Option, none, some}
-use lib.ListN.{length, take, drop, get_or, length_append}
-use lib.Seq.{take_at, get_or_append_add}
+use lib.ListN.{length, take, drop, get_or, length-append}
+use lib.Seq.{take_at, get_or-append-add}
 use Rattle.model.specs.Pool as Pool
 use Rattle.model.specs.Pool.{Pool}
 use Rattle.model.specs.Tree.{size}
@@ -139,7 +139,7 @@ runs_mean {n = n} {p = p} (orders ∷ lists) {ws' = ws'} s r =
     let m = accepted_means s r.3 in
     let more = runs_mean lists m.stands r.4 in
     record {
-      whole = omega (arith, length_append orders (all_orders lists), m.whole, more.whole);
+      whole = omega (arith, length-append orders (all_orders lists), m.whole, more.whole);
       stands = rw (becomes_append orders (all_orders lists) p m.whole) more.stands;
       tells = r.5 ∙ ap₂ ◌++◌ m.tells more.tells ∙ sym (tells_append orders (all_orders lists) p m.whole);
     }
@@ -199,9 +199,9 @@ exchange_met {e = e} {n = n} {p = p} s r =
       before = m.stands;
       after = rw (becomes_append r.front (order_words e.entry) p m.whole) at through.stands;
       code = r.code ∙ rw (told, ← size) (at (tells r.front p) (tells (order_words e.entry ++ r.back) (becomes r.front p)));
-      value = r.value ∙ rw (told, ← size) (get_or_append_add (tells r.front p)
+      value = r.value ∙ rw (told, ← size) (get_or-append-add (tells r.front p)
           (tells (order_words e.entry ++ r.back) (becomes r.front p)) 1 0);
     }
   where
     at : (xs ys : List ℕ) → get_or (xs ++ ys) (length xs) 0 ≡ get_or ys 0 0
-    at xs ys = rw (← add_zero (length xs)) (get_or_append_add xs ys 0 0)
+    at xs ys = rw (← add-zero (length xs)) (get_or-append-add xs ys 0 0)

@@ -8,7 +8,7 @@ use mathlib.Core.List.{List, [], ◌∷◌}
 use mathlib.Core.Logic.{◌⊎◌, inl, inr}
 use mathlib.Core.Option.{Option, none, some}
 use lib.Dec.{eqb}
-use borrow.Author.Tests.{eqb_true, eqb_false}
+use borrow.Author.Tests.{eqb-true, eqb-false}
 use lib.ListN.{length}
 use Rattle.model.specs.Marks as Marks
 use Rattle.model.specs.Pool.{Pool}
@@ -82,11 +82,11 @@ carried (n ∷ x ∷ y ∷ orders) p h =
     let o = asks n x y in
     let more = carried orders (after o p) (omega arith) in
     by_test (eqb (code (answer o p)) 0)
-    (λ t. rw t (more ∙ ap (carried_out (log orders (tells orders (after o p)))) (done_marks o p (eqb_true (code (answer o p)) 0 t))))
+    (λ t. rw t (more ∙ ap (carried_out (log orders (tells orders (after o p)))) (done_marks o p (eqb-true (code (answer o p)) 0 t))))
     (λ t. rw t
     (more
     ∙ ap (λ (q : Pool). carried_out (log orders (tells orders (after o p))) (marks q.tree))
-    (refused_changes_nothing o p (eqb_false (code (answer o p)) 0 t))))
+    (refused_changes_nothing o p (eqb-false (code (answer o p)) 0 t))))
 
 -- where no answer is 4, all that is told is what the list answers, and the marks afterwards are the list's
 pub told_with_room : (orders : List ℕ) (p : Pool) → length orders % 3 ≡ 0 → NoneFull (log orders (tells orders p))

@@ -8,7 +8,7 @@ use mathlib.Core.List.{List}
 use lib.IntN.{ℤ, pos}
 use mir.Syntax.{w64}
 use mir.Val.{SFits}
-use mir.ValLaws.{to_z_of_z}
+use mir.ValLaws.{to_z-of_z}
 use Rattle.model.specs.Tree.{Tree, fork, height}
 use Rattle.model.specs.Turn.{rebalance}
 use Rattle.pool.specs.Node.{node_at}
@@ -26,7 +26,7 @@ use Rattle.descent.proofs.Down.{Down, side_here}
 -- a change of height is handed on as a word
 pub after_held : {w w' : List ℕ} {end head : ℕ} {t t' : Tree} {free free' : List ℕ} (g : ℤ) → SFits w64 g
     → After w w' end head g t t' free free' → After w w' end head (held g) t t' free free'
-after_held g fits a = rw (to_z_of_z w64 g fits) a
+after_held g fits a = rw (to_z-of_z w64 g fits) a
 
 -- The fork over l and r, of which one, by `left`, has become `new`, and the chain free': the words v hold that already,
 -- and the fork says all of it but how it leans now.

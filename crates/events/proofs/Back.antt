@@ -1,14 +1,14 @@
 -- What is written is read back, and an accepted text in the writer's form is written again.
 use Prim.Native.Nat.{ℕ, zero, suc, ◌+◌, ◌^◌, ◌≤◌, ◌<◌}
-use native.Mathlib.Nat.{zero_add}
+use native.Mathlib.Nat.{zero-add}
 use native.Mathlib.Omega.{arith}
 use mathlib.Core.Path.{◌≡◌, refl, sym, ap, ap₂, ◌∙◌}
 use mathlib.Core.Bool.{Bool, true, false, ◌&&◌}
 use mathlib.Core.List.{List, [], ◌∷◌, ◌++◌, map}
 use mathlib.Core.Option.{Option, none, some, bind}
 use lib.Dec.{eqb, leb, ltb}
-use lib.ListN.{length, length_replicate}
-use borrow.Author.Tests.{le_leb, lt_leb, lt_ltb, eqb_true}
+use lib.ListN.{length, length-replicate}
+use borrow.Author.Tests.{le-leb, lt-leb, lt-ltb, eqb-true}
 use Rattle.model.proofs.Cases.{by_leb, by_ltb, by_test}
 use Rattle.text.specs.Text.{all_digits, all_ended, decimal, decimal_text, fields, lines, newline, one_number, same, space, worth}
 use Rattle.text.proofs.Digits.{decimal_back, worth_neither}
@@ -33,7 +33,7 @@ on_place len n ls p = elim (leb n p && ltb p len) [ true ↦ bind (places len (s
 
 on_place_within : (len n : ℕ) (ls : List (List ℕ)) (p : ℕ) → n ≤ p → p < len
     → on_place len n ls p ≡ bind (places len (suc p) ls) (λ ps. some (p ∷ ps))
-on_place_within len n ls p l h = rw (on_place, le_leb n p l, lt_ltb p len h)
+on_place_within len n ls p l h = rw (on_place, le-leb n p l, lt-ltb p len h)
 
 -- a line that tells a place in range
 places_more : (len n : ℕ) (l : List ℕ) (ls : List (List ℕ)) (p : ℕ) → decimal l ≡ some p → n ≤ p → p < len
@@ -96,7 +96,7 @@ module _ (xs : List Bool) where
   unfolding told list_lines bind
   told_back h =
       ap (λ (o : Option ℕ). bind o (told_by (map decimal_text (strikes_from 0 xs))))
-      (length_back (length xs) (omega arith) ∙ allows (length xs) (le_leb (length xs) most_marks h))
+      (length_back (length xs) (omega arith) ∙ allows (length xs) (le-leb (length xs) most_marks h))
       ∙ ap (λ (o : Option (List ℕ)). bind o (λ ps. some (struck (quiet (length xs)) ps)))
       (places_told (length xs) 0 0 xs (omega arith) (omega arith) (omega arith))
       ∙ ap {B = Option (List Bool)} some (struck_strikes [] xs)
@@ -104,13 +104,13 @@ module _ (xs : List Bool) where
   -- or they are too many
   told_not : length xs < 10 ^ 18 → most_marks < length xs → told (list_lines xs) ≡ none
   unfolding told list_lines bind
-  told_not f h = rw (length_back (length xs) f, refuses (length xs) (lt_leb (length xs) most_marks h))
+  told_not f h = rw (length_back (length xs) f, refuses (length xs) (lt-leb (length xs) most_marks h))
 
   -- the text of some marks is read as the marks
   pub list_back : length xs ≤ most_marks → length (list_text xs) ≤ most_bytes → list_marks (list_text xs) ≡ some xs
   unfolding list_marks list_text
   list_back h l =
-      rw (list_marks, le_leb (length (list_text xs)) most_bytes l) (ap told (lines_ended (list_lines xs) (lines_lack xs)) ∙ told_back h)
+      rw (list_marks, le-leb (length (list_text xs)) most_bytes l) (ap told (lines_ended (list_lines xs) (lines_lack xs)) ∙ told_back h)
 
   -- wherever it is accepted
   pub accepted_back : (ys : List Bool) → length xs < 10 ^ 18 → list_marks (list_text xs) ≡ some ys → ys ≡ xs
@@ -187,7 +187,7 @@ same_is [] (y ∷ b) e = absurd (let z : ◌≡◌ {A = ℕ} 0 1 = cc in omega a
 same_is (x ∷ a) [] e = absurd (let z : ◌≡◌ {A = ℕ} 0 1 = cc in omega arith)
 same_is (x ∷ a) (y ∷ b) e =
     by_test (eqb x y)
-    (λ t. ap₂ (λ (n : ℕ) (ns : List ℕ). n ∷ ns) (eqb_true x y t) (same_is a b (rw (same, t) at e)))
+    (λ t. ap₂ (λ (n : ℕ) (ns : List ℕ). n ∷ ns) (eqb-true x y t) (same_is a b (rw (same, t) at e)))
     (λ t. absurd (let never : ◌≡◌ {A = Bool} false true = rw (same, t) at e in let z : ◌≡◌ {A = ℕ} 0 1 = cc in omega arith))
 
 -- the fields of a first line that tells a length
@@ -225,8 +225,8 @@ told_lines (l ∷ ls) xs e z =
     let ps : List ℕ = r.0 in
     let is : struck (quiet len) ps ≡ xs = some_one (struck (quiet len) ps) xs r.2 in
     let a = places_are len 0 ls ps r.1 in
-    let long : length xs ≡ len = ap length (sym is) ∙ struck_length (quiet len) ps ∙ length_replicate len false in
-    let ascends : Ascends 0 (0 + len) ps = rw (zero_add len) a.0 in
+    let long : length xs ≡ len = ap length (sym is) ∙ struck_length (quiet len) ps ∙ length-replicate len false in
+    let ascends : Ascends 0 (0 + len) ps = rw (zero-add len) a.0 in
     let strikes : strikes_from 0 xs ≡ ps = ap (strikes_from 0) (sym is) ∙ strikes_struck len [] ps ascends in
     ap₂ (λ (x : List ℕ) (y : List (List ℕ)). x ∷ y)
     (ap length_line long ∙ sym (first_is l len t.1 z.0))

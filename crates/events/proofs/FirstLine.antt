@@ -6,8 +6,8 @@ use mathlib.Core.Path.{◌≡◌, refl, sym, ap, ap₂, ◌∙◌}
 use mathlib.Core.Bool.{Bool, true, false}
 use mathlib.Core.List.{List, [], ◌∷◌}
 use mathlib.Core.Option.{Option, none, some, bind}
-use lib.ListN.{length, take, drop, replicate, length_replicate}
-use borrow.Author.Tests.{le_leb, lt_leb}
+use lib.ListN.{length, take, drop, replicate, length-replicate}
+use borrow.Author.Tests.{le-leb, lt-leb}
 use Rattle.bytes.specs.Bytes.{index_of, slice}
 use Rattle.model.specs.Word.{marks_of}
 use Rattle.model.proofs.Cases.{by_leb, by_test}
@@ -23,11 +23,11 @@ use Rattle.events.proofs.SetMarks.{first_quiet}
 
 pub allowed_is : (n : ℕ) → n ≤ 32768 → allowed n ≡ some n
 unfolding allowed
-allowed_is n h = rw (allowed, le_leb n 32768 h)
+allowed_is n h = rw (allowed, le-leb n 32768 h)
 
 pub allowed_not : (n : ℕ) → 32768 < n → allowed n ≡ none
 unfolding allowed
-allowed_not n h = rw (allowed, lt_leb n 32768 h)
+allowed_not n h = rw (allowed, lt-leb n 32768 h)
 
 module _ {bs : List ℕ} {i : ℕ} (c : Cut bs i) where
   -- a line of one field tells none
@@ -79,7 +79,7 @@ abbrev after_length : List (List ℕ) → ℕ → Option (List Bool)
 after_length ls len = bind (places len 0 ls) (λ ps. some (struck (quiet len) ps))
 
 after_is_struck : (ls : List (List ℕ)) (len : ℕ) → after_length ls len ≡ struck_by 0 (quiet len) ls
-after_is_struck ls len = ap (λ (n : ℕ). bind (places n 0 ls) (λ ps. some (struck (quiet len) ps))) (sym (length_replicate len false))
+after_is_struck ls len = ap (λ (n : ℕ). bind (places n 0 ls) (λ ps. some (struck (quiet len) ps))) (sym (length-replicate len false))
 
 -- an empty text too is told by its first line
 by_first : (text : List ℕ) → told (lines text) ≡ bind (length_told (fields (first_line text))) (after_length (lines (after_line text)))
@@ -90,7 +90,7 @@ by_first (b ∷ bs) = ap told (lines_are b bs)
 -- a text that is too long
 pub list_long : (text : List ℕ) → 65536 < length text → list_marks text ≡ none
 unfolding list_marks
-list_long text h = rw (list_marks, lt_leb (length text) 65536 h)
+list_long text h = rw (list_marks, lt-leb (length text) 65536 h)
 
 -- where the first line ends
 pub record FirstEnds (text : List ℕ) (end : ℕ) : Type 0 where
@@ -102,7 +102,7 @@ module _ {text : List ℕ} {end : ℕ} (f : FirstEnds text end) where
   unfolding list_marks
   by_line =
       let all : end ≡ end - 0 = omega arith in
-      rw (list_marks, le_leb (length text) 65536 f.fits)
+      rw (list_marks, le-leb (length text) 65536 f.fits)
       (by_first text
       ∙ sym (ap₂ (λ (l rest : List ℕ). bind (length_told (fields l)) (after_length (lines rest)))
       (ap (λ (k : ℕ). take k text) all ∙ line_is text 0 end f.found) (rest_is text 0 end f.found (omega arith))))
@@ -124,7 +124,7 @@ module _ {text : List ℕ} {end len k : ℕ} {ws : List ℕ} (b : Begun text end
   pub begun_room : (len ≤ 32768) × (len ≤ 64 * length ws)
   begun_room =
       let most = told_most (fields (take end text)) len b.tells in
-      let long : length ws ≡ k = ap length b.zeros ∙ length_replicate {A = ℕ} k 0 in
+      let long : length ws ≡ k = ap length b.zeros ∙ length-replicate {A = ℕ} k 0 in
       (most, omega (arith, b.enough))
 
   -- they hold the marks before the first strike

@@ -4,9 +4,9 @@ use native.Mathlib.Omega.{arith}
 use mathlib.Core.Path.{◌≡◌, refl, sym, ap, ◌∙◌}
 use mathlib.Core.Bool.{Bool, true, false}
 use mathlib.Core.List.{List, [], ◌∷◌, ◌++◌, map, append_assoc}
-use lib.ListN.{length, drop, length_append, length_drop}
-use lib.Seq.{drop_drop}
-use borrow.Author.Tests.{lt_ltb}
+use lib.ListN.{length, drop, length-append, length-drop}
+use lib.Seq.{drop-drop}
+use borrow.Author.Tests.{lt-ltb}
 use Rattle.model.proofs.Cases.{by_ltb}
 use Rattle.text.specs.Text.{all_ended, decimal_text, newline}
 use Rattle.text.proofs.Digits.{fitting_least}
@@ -24,7 +24,7 @@ ended_append (l ∷ a) b =
 -- a line has a byte at least, its newline
 ended_some : (l : List ℕ) (ls : List (List ℕ)) → 1 ≤ length (all_ended (l ∷ ls))
 unfolding all_ended
-ended_some l ls = omega (arith, length_append l (newline ∷ all_ended ls))
+ended_some l ls = omega (arith, length-append l (newline ∷ all_ended ls))
 
 -- ---- the lines that fit
 
@@ -39,7 +39,7 @@ fitting_front room (l ∷ ls) =
 
 -- no more than there are
 pub fitting_count : (room : ℕ) (ls : List (List ℕ)) → length (fitting_lines room ls) ≤ length ls
-fitting_count room ls = omega (arith, ap length (fitting_front room ls), length_append (fitting_lines room ls) (drop (length (fitting_lines room ls)) ls))
+fitting_count room ls = omega (arith, ap length (fitting_front room ls), length-append (fitting_lines room ls) (drop (length (fitting_lines room ls)) ls))
 
 -- and they have room
 pub fitting_room : (room : ℕ) (ls : List (List ℕ)) → length (all_ended (fitting_lines room ls)) ≤ room
@@ -49,13 +49,13 @@ fitting_room room (l ∷ ls) =
     by_ltb (length l) room
     (λ e h. rw (fitting_lines, e)
     (let rest = fitting_room (room - suc (length l)) ls in
-    omega (arith, length_append l (newline ∷ all_ended (fitting_lines (room - suc (length l)) ls)))))
+    omega (arith, length-append l (newline ∷ all_ended (fitting_lines (room - suc (length l)) ls)))))
     (λ e _. rw (fitting_lines, e) (omega arith))
 
 -- a first line that has room is among them
 pub fitting_first : (room : ℕ) (l : List ℕ) (ls : List (List ℕ)) → length l < room → 1 ≤ length (all_ended (fitting_lines room (l ∷ ls)))
 unfolding fitting_lines
-fitting_first room l ls h = rw (fitting_lines, lt_ltb (length l) room h) (ended_some l (fitting_lines (room - suc (length l)) ls))
+fitting_first room l ls h = rw (fitting_lines, lt-ltb (length l) room h) (ended_some l (fitting_lines (room - suc (length l)) ls))
 
 -- ---- a page and what is left
 
@@ -65,7 +65,7 @@ module _ (room line : ℕ) (ls : List (List ℕ)) where
       ≡ all_ended (drop line ls)
   page_text =
       let k : ℕ = length (fitting_lines room (drop line ls)) in
-      let later : drop (line + k) ls ≡ drop k (drop line ls) = sym (drop_drop k line ls) in
+      let later : drop (line + k) ls ≡ drop k (drop line ls) = sym (drop-drop k line ls) in
       ap (λ (x : List (List ℕ)). all_ended (fitting_lines room (drop line ls)) ++ all_ended x) later
       ∙ sym (ended_append (fitting_lines room (drop line ls)) (drop k (drop line ls)))
       ∙ ap all_ended (fitting_front room (drop line ls))
@@ -74,7 +74,7 @@ module _ (room line : ℕ) (ls : List (List ℕ)) where
   pub next_fits : line < 2 ^ 64 → length ls < 2 ^ 64 → line + length (fitting_lines room (drop line ls)) < 2 ^ 64
   next_fits h k =
       let few = fitting_count room (drop line ls) in
-      omega (arith, length_drop line ls)
+      omega (arith, length-drop line ls)
 
 -- ---- the lines of a list
 

@@ -7,7 +7,7 @@ use mathlib.Core.Bool.{Bool}
 use mathlib.Core.List.{List, []}
 use mathlib.Core.Option.{Option, none, some}
 use lib.ListN.{length, take}
-use lib.Seq.{length_take_le}
+use lib.Seq.{length-take-le}
 use Rattle.model.specs.Contract.{Pinned}
 use Rattle.model.specs.Word.{marks_of}
 use Rattle.model.proofs.Contracts.{one_value}
@@ -37,7 +37,7 @@ marks_for (some xs) = xs
 
 read_number : (o : Option (List Bool)) (r : Number) (ws : List ℕ) → MarksRead o r ws → r ≡ number_for o
 read_number o (Value n) ws m =
-    ap Value (sym (length_take_le n (marks_of ws) (omega (arith, m.0, marks_length ws)))) ∙ ap number_for (sym m.1)
+    ap Value (sym (length-take-le n (marks_of ws) (omega (arith, m.0, marks_length ws)))) ∙ ap number_for (sym m.1)
 read_number o Nothing ws m = ap number_for (sym m)
 
 read_marks : (o : Option (List Bool)) (r : Number) (ws : List ℕ) → MarksRead o r ws → marks_in r ws ≡ marks_for o

@@ -6,9 +6,9 @@ use mathlib.Core.Bool.{Bool, true, false, ◌&&◌}
 use mathlib.Core.List.{List, [], ◌∷◌}
 use mathlib.Core.Option.{Option, none, some, bind}
 use lib.Dec.{leb, ltb}
-use lib.ListN.{length, take, drop, set, length_set}
-use lib.Seq.{length_take_le, take_set_lt}
-use borrow.Author.Tests.{le_leb, le_ltb, lt_leb, lt_ltb}
+use lib.ListN.{length, take, drop, set, length-set}
+use lib.Seq.{length-take-le, take-set-lt}
+use borrow.Author.Tests.{le-leb, le-ltb, lt-leb, lt-ltb}
 use Rattle.bytes.specs.Bytes.{index_of, slice}
 use Rattle.model.specs.Word.{marks_of}
 use Rattle.model.proofs.Cases.{by_test}
@@ -52,19 +52,19 @@ module _ (n : ℕ) (xs : List Bool) (l : List ℕ) (ls : List (List ℕ)) where
     -- a place that is out of range
     too_low : p < n → struck_by n xs (l ∷ ls) ≡ none
     unfolding bind
-    too_low h = ap strikes_told (out_of_range (length xs) n l ls p e (rw (lt_leb n p h)))
+    too_low h = ap strikes_told (out_of_range (length xs) n l ls p e (rw (lt-leb n p h)))
 
     too_high : length xs ≤ p → struck_by n xs (l ∷ ls) ≡ none
     unfolding bind
     too_high h =
-        ap strikes_told (out_of_range (length xs) n l ls p e (by_test (leb n p) (λ t. rw (t, le_ltb p (length xs) h)) (λ t. rw t)))
+        ap strikes_told (out_of_range (length xs) n l ls p e (by_test (leb n p) (λ t. rw (t, le-ltb p (length xs) h)) (λ t. rw t)))
 
     -- a place: a strike is set there, and the next one is above it
     one_more : n ≤ p → p < length xs → struck_by n xs (l ∷ ls) ≡ struck_by (suc p) (set xs p true) ls
     unfolding struck bind
     one_more low high =
-        ap strikes_told (in_range (length xs) n l ls p e (rw (le_leb n p low, lt_ltb p (length xs) high)))
-        ∙ rw (length_set xs p true) (behind (places (length xs) (suc p) ls))
+        ap strikes_told (in_range (length xs) n l ls p e (rw (le-leb n p low, lt-ltb p (length xs) high)))
+        ∙ rw (length-set xs p true) (behind (places (length xs) (suc p) ls))
       where
         behind : (o : Option (List ℕ)) → strikes_told (bind o (λ ps. some (p ∷ ps))) ≡ bind o (λ ps. some (struck (set xs p true) ps))
         behind none = refl
@@ -118,7 +118,7 @@ module _ {text : List ℕ} {start len : ℕ} {was ws : List ℕ} {at least end :
       (rest_is text at end n.found (index_past at _ end n.found))))
 
   marks_long : length marks ≡ len
-  marks_long = length_take_le len (marks_of ws) (omega (arith, marks_length ws, n.going.as_long, n.room))
+  marks_long = length-take-le len (marks_of ws) (omega (arith, marks_length ws, n.going.as_long, n.room))
 
   -- no decimal
   pub next_not : decimal (take (end - at) (drop at text)) ≡ none → whole text start len was ≡ none
@@ -154,6 +154,6 @@ module _ {text : List ℕ} {start len : ℕ} {was ws : List ℕ} {at least end p
         onward =
             asked m ∙ one_more least (marks m) (line m) (others m) p n.tells n.low (omega (arith, n.high, marks_long m))
             ∙ ap₂ (λ (k : ℕ) (xs : List Bool). struck_by k xs (others m)) (sym above)
-            (sym (ap (take len) s.marks ∙ take_set_lt len (marks_of ws) p true n.high))
+            (sym (ap (take len) s.marks ∙ take-set-lt len (marks_of ws) p true n.high))
             ∙ ap (λ (k : ℕ). struck_by least' (take len (marks_of ws')) (lines (drop k text))) (sym e);
       }

@@ -1,15 +1,15 @@
 -- Where the strikes of marks stand, and marks with strikes set at their places: one undoes the other.
 use Prim.Native.Nat.{ℕ, zero, suc, ◌+◌, ◌≤◌, ◌<◌}
-use native.Mathlib.Nat.{add_zero, zero_add}
-use native.Mathlib.Numerals.{add_one}
+use native.Mathlib.Nat.{add-zero, zero-add}
+use native.Mathlib.Numerals.{add-one}
 use native.Mathlib.Omega.{arith}
 use mathlib.Core.Path.{◌≡◌, refl, sym, ap, ap₂, ◌∙◌}
 use mathlib.Core.Bool.{Bool, true, false}
-use mathlib.Core.List.{List, [], ◌∷◌, ◌++◌, append_nil}
+use mathlib.Core.List.{List, [], ◌∷◌, ◌++◌, append-nil}
 use lib.Dec.{eqb}
-use lib.ListN.{length, set, length_append, length_set}
-use lib.Seq.{append_snoc, set_append_seam}
-use borrow.Author.Tests.{eqb_true, eqb_false}
+use lib.ListN.{length, set, length-append, length-set}
+use lib.Seq.{append_snoc, set-append_seam}
+use borrow.Author.Tests.{eqb-true, eqb-false}
 use Rattle.model.proofs.Cases.{by_test}
 use Rattle.events.specs.Events.{quiet, strikes_from, struck}
 
@@ -17,7 +17,7 @@ use Rattle.events.specs.Events.{quiet, strikes_from, struck}
 
 pub strikes_append : (n : ℕ) (xs ys : List Bool) → strikes_from n (xs ++ ys) ≡ strikes_from n xs ++ strikes_from (n + length xs) ys
 unfolding strikes_from
-strikes_append n [] ys = ap (λ (m : ℕ). strikes_from m ys) (sym (add_zero n))
+strikes_append n [] ys = ap (λ (m : ℕ). strikes_from m ys) (sym (add-zero n))
 strikes_append n (true ∷ xs) ys =
     ap (λ (ps : List ℕ). n ∷ ps)
     (strikes_append (suc n) xs ys ∙ ap (λ (m : ℕ). strikes_from (suc n) xs ++ strikes_from m ys) (omega arith))
@@ -35,15 +35,15 @@ strikes_quiet n (suc k) = strikes_quiet (suc n) k
 pub struck_length : (xs : List Bool) (ps : List ℕ) → length (struck xs ps) ≡ length xs
 unfolding struck
 struck_length xs [] = refl
-struck_length xs (p ∷ ps) = struck_length (set xs p true) ps ∙ length_set xs p true
+struck_length xs (p ∷ ps) = struck_length (set xs p true) ps ∙ length-set xs p true
 
 -- one mark more
 snoc_length : (xs : List Bool) (b : Bool) → length (xs ++ (b ∷ [])) ≡ suc (length xs)
-snoc_length xs b = length_append xs (b ∷ []) ∙ add_one (length xs)
+snoc_length xs b = length-append xs (b ∷ []) ∙ add-one (length xs)
 
 -- the first of some quiet frames becomes a strike
 set_first : (pre : List Bool) (k : ℕ) → set (pre ++ quiet (suc k)) (length pre) true ≡ pre ++ (true ∷ []) ++ quiet k
-set_first pre k = set_append_seam pre false (quiet k) true ∙ sym (append_snoc pre true (quiet k))
+set_first pre k = set-append_seam pre false (quiet k) true ∙ sym (append_snoc pre true (quiet k))
 
 -- with a strike set wherever one stands, quiet frames are the marks
 pub struck_strikes : (pre xs : List Bool) → struck (pre ++ quiet (length xs)) (strikes_from (length pre) xs) ≡ pre ++ xs
@@ -65,7 +65,7 @@ Ascends n len (p ∷ ps) = (n ≤ p) × (p < len) × Ascends (suc p) len ps
 
 -- the strikes of some marks and one more
 strikes_snoc : (pre : List Bool) (b : Bool) → strikes_from 0 (pre ++ (b ∷ [])) ≡ strikes_from 0 pre ++ strikes_from (length pre) (b ∷ [])
-strikes_snoc pre b = strikes_append 0 pre (b ∷ []) ∙ ap (λ (n : ℕ). strikes_from 0 pre ++ strikes_from n (b ∷ [])) (zero_add (length pre))
+strikes_snoc pre b = strikes_append 0 pre (b ∷ []) ∙ ap (λ (n : ℕ). strikes_from 0 pre ++ strikes_from n (b ∷ [])) (zero-add (length pre))
 
 -- the strikes of quiet frames in which strikes were set are those
 pub strikes_struck : (k : ℕ) (pre : List Bool) (ps : List ℕ) → Ascends (length pre) (length pre + k) ps
@@ -77,7 +77,7 @@ strikes_struck zero pre (p ∷ ps) h = absurd (omega arith)
 strikes_struck (suc k) pre (p ∷ ps) h =
     by_test (eqb p (length pre))
     (λ e.
-    let here : p ≡ length pre = eqb_true p (length pre) e in
+    let here : p ≡ length pre = eqb-true p (length pre) e in
     let grown : length (pre ++ (true ∷ [])) ≡ suc (length pre) = snoc_length pre true in
     ap (λ (xs : List Bool). strikes_from 0 (struck xs ps)) (ap (λ (n : ℕ). set (pre ++ quiet (suc k)) n true) here ∙ set_first pre k)
     ∙ strikes_struck k (pre ++ (true ∷ [])) ps
@@ -87,11 +87,11 @@ strikes_struck (suc k) pre (p ∷ ps) h =
     ∙ ap (λ (n : ℕ). strikes_from 0 pre ++ (n ∷ ps)) (sym here))
     (λ e.
     let grown : length (pre ++ (false ∷ [])) ≡ suc (length pre) = snoc_length pre false in
-    let apart : p ≡ length pre → ⊥ = eqb_false p (length pre) e in
+    let apart : p ≡ length pre → ⊥ = eqb-false p (length pre) e in
     ap (λ (xs : List Bool). strikes_from 0 (struck xs (p ∷ ps))) (sym (append_snoc pre false (quiet k)))
     ∙ strikes_struck k (pre ++ (false ∷ [])) (p ∷ ps)
     (omega arith, omega arith, ascends_is (suc p) (length pre + suc k) (suc p) (length (pre ++ (false ∷ [])) + k) ps refl (omega arith) h.2)
-    ∙ ap (λ (qs : List ℕ). qs ++ (p ∷ ps)) (strikes_snoc pre false ∙ append_nil (strikes_from 0 pre)))
+    ∙ ap (λ (qs : List ℕ). qs ++ (p ∷ ps)) (strikes_snoc pre false ∙ append-nil (strikes_from 0 pre)))
   where
     ascends_is : (n len n' len' : ℕ) (qs : List ℕ) → n ≡ n' → len ≡ len' → Ascends n len qs → Ascends n' len' qs
     ascends_is n len n' len' qs e f a = rw (sym e, sym f) a

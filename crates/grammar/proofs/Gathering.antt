@@ -1,12 +1,12 @@
 -- The words of a load, gathered field by field: where a search for the next space has come to, and what was put in a row so far.
 use Prim.Native.Nat.{ℕ, zero, suc, ◌+◌, ◌-◌, ◌*◌, ◌≤◌, ◌<◌}
-use native.Mathlib.Numerals.{add_one}
+use native.Mathlib.Numerals.{add-one}
 use native.Mathlib.Omega.{arith}
 use mathlib.Core.Path.{◌≡◌, refl, sym, ap, ap₂, ◌∙◌}
 use mathlib.Core.List.{List, [], ◌∷◌, ◌++◌}
 use mathlib.Core.Option.{Option, none, some, bind}
-use lib.ListN.{length, take, drop, set, length_drop, length_set, length_take}
-use lib.Seq.{append_snoc, drop_drop, length_take_le, take_length, take_suc_set}
+use lib.ListN.{length, take, drop, set, length-drop, length-set, length-take}
+use lib.Seq.{append_snoc, drop-drop, length-take-le, take-length, take-suc-set}
 use Rattle.bytes.specs.Bytes.{index_of, slice}
 use Rattle.text.specs.Text.{fields}
 use Rattle.grammar.specs.Lines.{hex_words, WordsRead}
@@ -47,7 +47,7 @@ gathered_none bs ws = record { reach = omega arith; spread = omega arith; as_lon
 module _ {bs was ws : List ℕ} {at count end : ℕ} (g : Gathered bs was ws at count) (found : end ≡ at + index_of space (slice at (length bs) bs)) where
   next_cut : Cut (drop at bs) (end - at)
   unfolding slice
-  next_cut = record { here = omega (arith, found ∙ ap (λ (l : List ℕ). at + index_of space (drop at l)) (take_length bs)) }
+  next_cut = record { here = omega (arith, found ∙ ap (λ (l : List ℕ). at + index_of space (drop at l)) (take-length bs)) }
 
   -- the field before it is no word
   pub gather_not : hex_word (take (end - at) (drop at bs)) ≡ none → hex_words (fields bs) ≡ none
@@ -70,8 +70,8 @@ module _ {bs was ws : List ℕ} {at count end w : ℕ} (n : Next bs was ws at co
   long =
       let sixteen : length (take (end - at) (drop at bs)) ≡ 16 = hex_long (take (end - at) (drop at bs)) w n.word in
       let within : end - at ≤ length (drop at bs) = rw cut.here (index_within space (drop at bs)) in
-      let all : length (take (end - at) (drop at bs)) ≡ end - at = length_take_le (end - at) (drop at bs) within in
-      omega (arith, length_drop at bs)
+      let all : length (take (end - at) (drop at bs)) ≡ end - at = length-take-le (end - at) (drop at bs) within in
+      omega (arith, length-drop at bs)
 
   -- so there is room for it
   pub next_room : count < length ws
@@ -79,27 +79,27 @@ module _ {bs was ws : List ℕ} {at count end w : ℕ} (n : Next bs was ws at co
 
   -- the row with the word in it
   stored : take (count + 1) (set ws count w) ≡ take count ws ++ (w ∷ [])
-  stored = rw (add_one count) (take_suc_set ws count w next_room)
+  stored = rw (add-one count) (take-suc-set ws count w next_room)
 
   -- it is the last one
   pub next_last : length bs ≤ end → WordsRead (hex_words (fields bs)) (Value (count + 1)) (set ws count w)
   unfolding hex_words bind
   next_last h =
-      let alone : length (drop at bs) ≤ end - at = let l = long in omega (arith, length_drop at bs) in
-      (omega (arith, next_room, length_set ws count w), n.gathered.onward ∙ rw (fields_alone cut alone, n.word, stored))
+      let alone : length (drop at bs) ≤ end - at = let l = long in omega (arith, length-drop at bs) in
+      (omega (arith, next_room, length-set ws count w), n.gathered.onward ∙ rw (fields_alone cut alone, n.word, stored))
 
   -- another one follows
   pub next_more : end < length bs → Gathered bs was (set ws count w) (end + 1) (count + 1)
   unfolding hex_words bind
   next_more h =
       let l = long in
-      let more : end - at < length (drop at bs) = omega (arith, length_drop at bs) in
+      let more : end - at < length (drop at bs) = omega (arith, length-drop at bs) in
       let there : at + (end - at + 1) ≡ end + 1 = omega arith in
-      let rest : drop (end - at + 1) (drop at bs) ≡ drop (end + 1) bs = drop_drop (end - at + 1) at bs ∙ ap (λ (k : ℕ). drop k bs) there in
+      let rest : drop (end - at + 1) (drop at bs) ≡ drop (end + 1) bs = drop-drop (end - at + 1) at bs ∙ ap (λ (k : ℕ). drop k bs) there in
       record {
         reach = omega arith;
         spread = omega (arith, n.gathered.spread);
-        as_long = length_set ws count w ∙ n.gathered.as_long;
+        as_long = length-set ws count w ∙ n.gathered.as_long;
         onward =
             n.gathered.onward
             ∙ rw (fields_more cut more, rest, n.word) (after_one (take count ws) w (hex_words (fields (drop (end + 1) bs))))

@@ -1,12 +1,12 @@
 -- The names of lines, sought one after the other in a row of all of them.
 use Prim.Native.Nat.{ℕ, zero, suc, ◌+◌, ◌-◌, ◌≤◌, ◌<◌}
-use native.Mathlib.Numerals.{add_one}
+use native.Mathlib.Numerals.{add-one}
 use native.Mathlib.Omega.{arith}
 use mathlib.Core.Path.{◌≡◌, refl, sym, ◌∙◌}
 use mathlib.Core.Bool.{Bool, true, false}
 use mathlib.Core.List.{List, [], ◌∷◌}
 use lib.ListN.{length, get_or, take, drop}
-use lib.Seq.{drop_cons}
+use lib.Seq.{drop-cons}
 use Rattle.text.specs.Text.{same}
 use Rattle.grammar.specs.Lines.{all_spelled, first_named, named, names, spelled}
 use Rattle.grammar.specs.declared.fields.Name.{Name}
@@ -56,7 +56,7 @@ from_first = record { sought = refl }
 
 module _ {i : ℕ} {bs : List ℕ} {r : Bool} (a : From i bs) (h : i < 9) (compared : r ≡ same bs (spelled (get_or names i Other))) where
   next : drop i names ≡ get_or names i Other ∷ drop (suc i) names
-  next = drop_cons names i Other h
+  next = drop-cons names i Other h
 
   pub name_is : r ≡ true → get_or names i Other ≡ named bs
   unfolding first_named
@@ -64,7 +64,7 @@ module _ {i : ℕ} {bs : List ℕ} {r : Bool} (a : From i bs) (h : i < 9) (compa
 
   pub name_not : r ≡ false → From (i + 1) bs
   unfolding first_named
-  name_not e = record { sought = a.sought ∙ rw (next, first_named, ← compared, e, add_one i) }
+  name_not e = record { sought = a.sought ∙ rw (next, first_named, ← compared, e, add-one i) }
 
 pub name_none : {i : ℕ} {bs : List ℕ} → From i bs → i ≡ 9 → Other ≡ named bs
 unfolding first_named

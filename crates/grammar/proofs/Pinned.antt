@@ -8,7 +8,7 @@ use mathlib.Core.Bool.{Bool, true, false}
 use mathlib.Core.List.{List, [], ◌∷◌}
 use mathlib.Core.Option.{Option, none, some, bind}
 use lib.ListN.{length, take}
-use lib.Seq.{length_take_le}
+use lib.Seq.{length-take-le}
 use Rattle.model.specs.Word.{digit}
 use Rattle.order.specs.Asked.{Asked, asks, accessing, inserting, quiet, ranking, removing, selecting, unknown, with_bit, with_zero}
 use Rattle.grammar.specs.Lines.{dumping, hex_words, line_of, load_of, loading, named, no_field, one_number, order_with, ordering, pooling, Reads, Tells, two_numbers, wanted, wanted_of, Wanted}
@@ -151,7 +151,7 @@ told_line : (w : Option Wanted) (r : Line) (ws : List ℕ) → Sensible w → Te
 unfolding line_for
 told_line w (Line_as_Pool n) ws s e = ap line_for (sym e)
 told_line w (Line_as_Load l) ws s e =
-    ap (λ (k : ℕ). Line_as_Load (record { length = l.length; count = k })) (sym (length_take_le l.count ws e.0)) ∙ ap line_for (sym e.1)
+    ap (λ (k : ℕ). Line_as_Load (record { length = l.length; count = k })) (sym (length-take-le l.count ws e.0)) ∙ ap line_for (sym e.1)
 told_line w (Line_as_Order o) ws s e = ap Line_as_Order (sym (asks_back o.number o.second o.third (rw e at s))) ∙ ap line_for (sym e)
 told_line w Line_as_Dump ws s e = ap line_for (sym e)
 told_line w Line_as_Malformed ws s e = ap line_for (sym e)

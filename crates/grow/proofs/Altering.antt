@@ -6,7 +6,7 @@ use mathlib.Core.Path.{◌≡◌, sym, ap, ◌∙◌}
 use mathlib.Core.Bool.{Bool, true, false}
 use mathlib.Core.List.{List, ◌∷◌, ◌++◌}
 use mathlib.Core.Option.{Option, some}
-use lib.ListN.{length, take, drop, take_append_drop}
+use lib.ListN.{length, take, drop, take-append-drop}
 use Rattle.model.specs.Edit.{insert, splits}
 use Rattle.model.specs.Marks as Marks
 use Rattle.model.specs.Marks.{count}
@@ -34,7 +34,7 @@ count_insert i b xs =
       count_append true (take i xs) (b ∷ drop i xs),
       count_cons b (drop i xs),
       count_append true (take i xs) (drop i xs),
-      ap (count true) (take_append_drop i xs),
+      ap (count true) (take-append-drop i xs),
     )
 
 pub insert_count : (i : ℕ) (b : Bool) (free : List ℕ) (t : Tree) → i ≤ size t

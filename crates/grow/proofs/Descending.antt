@@ -1,11 +1,11 @@
 -- An insert at a leaf and at a fork: what it may assume there, and what it leaves if its call on the child does.
 use Prim.Native.Nat.{ℕ, suc, ◌+◌, ◌-◌, ◌≤◌, ◌<◌, ◌^◌}
-use native.Mathlib.Nat.{add_zero}
+use native.Mathlib.Nat.{add-zero}
 use native.Mathlib.Omega.{arith}
 use mathlib.Core.Path.{◌≡◌, refl, sym, ap, ◌∙◌}
 use mathlib.Core.Bool.{Bool, true, false, ◌&&◌}
 use mathlib.Core.List.{List}
-use borrow.Author.Tests.{le_leb, lt_ltb, le_ltb}
+use borrow.Author.Tests.{le-leb, lt-ltb, le-ltb}
 use lib.IntN.{ℤ, pos}
 use lib.ListN.{length}
 use mir.Val.{bool_byte}
@@ -76,7 +76,7 @@ module _ {w : List ℕ} {n levels head total index : ℕ} {x y : Leaf} (b : ToIn
         once = stands.once;
         chained = stands.chained;
         first = stands.first;
-        room = λ full. split (le_leb 128 (suc (length here.marks)) (omega arith));
+        room = λ full. split (le-leb 128 (suc (length here.marks)) (omega arith));
       }
 
   -- and settled it is the tree with the mark
@@ -118,8 +118,8 @@ leads : {f : Fork} {total i : ℕ} {s : Step} (n : ℕ) (l r : Tree) → f ≡ f
 unfolding fork_of insert
 leads {i = i} n l r e toward =
     by_step n l r e toward (λ (s : Step). Leads s n i l r)
-    (λ k. record { splits_same = splits_left i n l r k; inserts = λ b free. rw (insert, lt_ltb i (size l) k) })
-    (λ k. record { splits_same = splits_right i n l r k; inserts = λ b free. rw (insert, le_ltb i (size l) k) })
+    (λ k. record { splits_same = splits_left i n l r k; inserts = λ b free. rw (insert, lt-ltb i (size l) k) })
+    (λ k. record { splits_same = splits_right i n l r k; inserts = λ b free. rw (insert, le-ltb i (size l) k) })
 
 -- a fork with one mark more in its left child or in its right one
 abbrev with_mark : Fork → Bool → Bool → Fork
@@ -144,8 +144,8 @@ recounted false f i b free l r e h =
     rw e (λ j. record {
       left = top l;
       right = sym (insert_top i b free r) j;
-      left_total = add_zero (size l) j;
-      left_ones = add_zero (count true (marks l)) j;
+      left_total = add-zero (size l) j;
+      left_ones = add-zero (count true (marks l)) j;
       balance = (height r + 2) - height l;
     })
 

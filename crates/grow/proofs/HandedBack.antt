@@ -6,7 +6,7 @@ use mathlib.Core.Path.{◌≡◌, sym, ◌∙◌}
 use mathlib.Core.Bool.{Bool, true}
 use mathlib.Core.List.{List, [], ◌∷◌, Memᴰ}
 use lib.IntN.{ℤ}
-use lib.ListN.{length, length_drop}
+use lib.ListN.{length, length-drop}
 use Rattle.model.specs.Edit.{splits}
 use Rattle.model.specs.Limits.{levels}
 use Rattle.model.specs.Sound.{Distinct}
@@ -58,5 +58,5 @@ module _ {w w' : List ℕ} {root head total index : ℕ} {chain : Chain} {by : �
           edited = a.edited;
           chained = a.chained;
           first = a.first;
-          count_is = rw was_split (omega (arith, length_drop 2 at.free, q.count_is));
+          count_is = rw was_split (omega (arith, length-drop 2 at.free, q.count_is));
         }

@@ -6,10 +6,10 @@ use mathlib.Core.Path.{◌≡◌, refl, sym, ap, ◌∙◌}
 use mathlib.Core.Bool.{Bool, true}
 use mathlib.Core.List.Memᴰ
 use mathlib.Core.List.{List, [], ◌∷◌}
-use borrow.Author.Tests.{le_leb, lt_leb}
+use borrow.Author.Tests.{le-leb, lt-leb}
 use lib.IntN.{ℤ, pos}
 use lib.ListN.{length, take, drop}
-use lib.Seq.{take_all, length_take_le}
+use lib.Seq.{take_all, length-take-le}
 use Rattle.model.specs.Marks.{count, rank}
 use Rattle.model.specs.Sound.{Distinct}
 use Rattle.model.specs.Tree as Tree
@@ -38,7 +38,7 @@ unfolding numbers height
 settled {w} {w'} {n} {head} {leaf} {total} b small e =
     let p : Put w w' n (Node.Leaf leaf) = rw e (put_leaf w n leaf b.there) in
     let same = b.total_is in
-    rw (lt_leb 128 total small)
+    rw (lt-leb 128 total small)
     (settle_cases (λ (t : Tree). After w w' b.end head (pos 0) (Tree.leaf n []) t b.free b.free) n b.marks b.free
     (λ full. absurd (omega arith))
     (λ _. record {
@@ -96,7 +96,7 @@ module _ {w w₁ w₂ w₃ : List ℕ} {n a b : ℕ} (xs : List Bool) (cs : List
 half_strikes : (xs : List Bool) → length xs ≡ 128 → rank true 64 (bits_of (leaf_of (take 64 xs))) ≡ count true (take 64 xs)
 unfolding rank
 half_strikes xs e =
-    let l : length (take 64 xs) ≡ 64 = length_take_le 64 xs (omega arith) in
+    let l : length (take 64 xs) ≡ 64 = length-take-le 64 xs (omega arith) in
     rank_held (take 64 xs) true 64 (omega arith) (omega arith) ∙ ap (count true) (take_all 64 (take 64 xs) (omega arith))
 
 -- the fork over the halves
@@ -104,7 +104,7 @@ half_fork : (xs : List Bool) (a b : ℕ) (f : Fork) → length xs ≡ 128 → f.
     → f.left_ones ≡ count true (take 64 xs) → f.balance ≡ 2 → f ≡ fork_of (Tree.leaf a (take 64 xs)) (Tree.leaf b (drop 64 xs))
 unfolding fork_of top size marks height
 half_fork xs a b f e x y z o s i =
-    record { left = x i; right = y i; left_total = (z ∙ sym (length_take_le 64 xs (omega arith))) i; left_ones = o i; balance = s i }
+    record { left = x i; right = y i; left_total = (z ∙ sym (length-take-le 64 xs (omega arith))) i; left_ones = o i; balance = s i }
 
 -- the chain of a leaf that splits: its first two numbers, and the rest
 pub record Two (w : List ℕ) (end head : ℕ) (free : List ℕ) : Type 0 where
@@ -194,4 +194,4 @@ module _ {w : List ℕ} {n head total : ℕ} {leaf : Leaf} (b : ToSettle w n hea
 
   pub full_split : {w' : List ℕ} {head' : ℕ} {by : ℤ} → Settled full_now w' head' by → Settled b w' head' by
   unfolding full_now
-  full_split a = rw (le_leb 128 total full) a
+  full_split a = rw (le-leb 128 total full) a

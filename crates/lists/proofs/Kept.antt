@@ -3,10 +3,10 @@ use Prim.Native.Nat.{ℕ, zero, suc, ◌+◌, ◌*◌, ◌≤◌, ◌<◌}
 use native.Mathlib.Omega.{arith}
 use mathlib.Core.Path.{◌≡◌, refl, sym, ap, ap₂, ◌∙◌}
 use mathlib.Core.Bool.{Bool}
-use mathlib.Core.List.{List, [], ◌∷◌, ◌++◌, append_assoc, append_nil}
+use mathlib.Core.List.{List, [], ◌∷◌, ◌++◌, append_assoc, append-nil}
 use mathlib.Core.Option.{Option, none, some}
-use lib.ListN.{length, take, drop, length_drop, take_append_drop}
-use lib.Seq.{length_take_le, take_all, take_append_add, take_append_le, take_at}
+use lib.ListN.{length, take, drop, length-drop, take-append-drop}
+use lib.Seq.{length-take-le, take_all, take-append-add, take-append-le, take_at}
 use Rattle.model.specs.Pool as Pool
 use Rattle.model.specs.Pool.{Pool}
 use Rattle.model.specs.Tree.{marks}
@@ -106,19 +106,19 @@ words_hold zero (x ∷ xs) h = absurd (omega arith)
 words_hold (suc k) xs h =
     by_leb (length xs) 64
     (λ _ l.
-    take_append_le (length xs) (bits 64 (number (take 64 xs))) (marks_of (words_of k (drop 64 xs)))
+    take-append-le (length xs) (bits 64 (number (take 64 xs))) (marks_of (words_of k (drop 64 xs)))
     (omega (arith, bits_length 64 (number (take 64 xs))))
     ∙ ap (λ (ys : List Bool). take (length xs) (bits 64 (number ys))) (take_all 64 xs l)
     ∙ take_bits (length xs) 64 (number xs) l ∙ bits_number xs)
     (λ _ l.
-    let whole : length (take 64 xs) ≡ 64 = length_take_le 64 xs (omega arith) in
+    let whole : length (take 64 xs) ≡ 64 = length-take-le 64 xs (omega arith) in
     let front : bits 64 (number (take 64 xs)) ≡ take 64 xs =
     ap (λ (n : ℕ). bits n (number (take 64 xs))) (sym whole) ∙ bits_number (take 64 xs) in
-    let count : length xs ≡ length (take 64 xs) + length (drop 64 xs) = omega (arith, length_drop 64 xs) in
+    let count : length xs ≡ length (take 64 xs) + length (drop 64 xs) = omega (arith, length-drop 64 xs) in
     ap₂ (λ (n : ℕ) (ys : List Bool). take n (ys ++ marks_of (words_of k (drop 64 xs)))) count front
-    ∙ take_append_add (take 64 xs) (marks_of (words_of k (drop 64 xs))) (length (drop 64 xs))
-    ∙ ap (λ (ys : List Bool). take 64 xs ++ ys) (words_hold k (drop 64 xs) (omega (arith, length_drop 64 xs)))
-    ∙ take_append_drop 64 xs)
+    ∙ take-append-add (take 64 xs) (marks_of (words_of k (drop 64 xs))) (length (drop 64 xs))
+    ∙ ap (λ (ys : List Bool). take 64 xs ++ ys) (words_hold k (drop 64 xs) (omega (arith, length-drop 64 xs)))
+    ∙ take-append-drop 64 xs)
 
 pub some_words_hold : SomeWordsHold
 some_words_hold xs =
@@ -180,7 +180,7 @@ pages_are_the_text ws n p text s g =
     let w = paged ws g.next n p e.0 e.1 e.2 s e.3 e.4 in
     let over_now : drop g.next (list_lines xs) ≡ [] =
     empty_page (length e.0) g.next xs (omega (arith, marks_few ws n p s)) w.enough (sym w.bytes ∙ e.5) in
-    sym (append_nil text) ∙ ap (λ (ls : List (List ℕ)). text ++ all_ended ls) (sym over_now)
+    sym (append-nil text) ∙ ap (λ (ls : List (List ℕ)). text ++ all_ended ls) (sym over_now)
     ∙ pages_from g.count ws n p 0 text g.next s g.pages
 
 -- no lines have no bytes

@@ -4,8 +4,8 @@ use Prim.Native.Nat.{ℕ, zero, suc, ◌*◌, ◌≤◌}
 use native.Mathlib.Omega.{arith}
 use mathlib.Core.Path.{◌≡◌, refl, ◌∙◌}
 use mathlib.Core.Bool.{Bool}
-use mathlib.Core.List.{List, [], ◌∷◌, ◌++◌, append_assoc, append_nil, reverse_aux}
-use lib.ListN.{length, drop, length_drop, take_append_drop}
+use mathlib.Core.List.{List, [], ◌∷◌, ◌++◌, append_assoc, append-nil, reverse_aux}
+use lib.ListN.{length, drop, length-drop, take-append-drop}
 use Rattle.model.specs.Tree.{Tree, marks}
 use Rattle.model.specs.Build.{leaf_built, built_leaves, round, build}
 use Rattle.model.proofs.Rounds.{build_keeps, leaf_count_covers}
@@ -23,7 +23,7 @@ marks_backward (t ∷ ts) = marks_backward ts ++ marks t
 -- trees reversed and read backward are the trees read onward
 reversed_marks : (ts seen : List Tree) → marks_backward (reverse_aux ts seen) ≡ marks_backward seen ++ marks_onward ts
 unfolding marks_backward marks_onward
-reversed_marks [] seen = simp append_nil
+reversed_marks [] seen = simp append-nil
 reversed_marks (t ∷ ts) seen = simp (reversed_marks ts (t ∷ seen), append_assoc)
 
 -- enough leaves take all the marks
@@ -32,8 +32,8 @@ unfolding marks_onward built_leaves marks
 leaves_marks n zero [] h = refl
 leaves_marks n zero (x ∷ xs) h = absurd (omega arith)
 leaves_marks n (suc k) xs h =
-    let h' : length (drop leaf_built xs) ≤ k * leaf_built = simp length_drop (omega arith) in
-    rw (leaves_marks (suc n) k (drop leaf_built xs) h') (take_append_drop leaf_built xs)
+    let h' : length (drop leaf_built xs) ≤ k * leaf_built = simp length-drop (omega arith) in
+    rw (leaves_marks (suc n) k (drop leaf_built xs) h') (take-append-drop leaf_built xs)
 
 -- a round changes no marks
 round_marks : (n : ℕ) (ts : List Tree) → marks_backward (round n ts) ≡ marks_backward ts

@@ -4,7 +4,7 @@ use Prim.Native.Nat.{ℕ, zero, suc, ◌*◌, ◌/◌, ◌≤◌, ◌<◌}
 use native.Mathlib.Omega.{arith}
 use mathlib.Core.Bool.{Bool}
 use mathlib.Core.List.{List, [], ◌∷◌, reverse_aux}
-use lib.ListN.{length, drop, length_take, length_drop}
+use lib.ListN.{length, drop, length-take, length-drop}
 use Rattle.model.specs.Tree.{Tree}
 use Rattle.model.specs.Build.{leaf_built, leaf_count, built_leaves, round, foremost, rounds, build}
 use Rattle.model.specs.Edit.{leaf_least}
@@ -30,10 +30,10 @@ round_row least n (r ∷ l ∷ s ∷ t ∷ more) p = ((p.1.0, p.0), round_row le
 leaves_row : (n k : ℕ) (xs : List Bool) (seen : List Tree) → k * leaf_built < length xs → length xs ≤ suc k * leaf_built
     → Row leaf_least seen → Row 1 (reverse_aux (built_leaves n (suc k) xs) seen)
 unfolding built_leaves
-leaves_row n zero xs seen some few p = (simp (length_take leaf_built xs) (omega arith), p)
+leaves_row n zero xs seen some few p = (simp (length-take leaf_built xs) (omega arith), p)
 leaves_row n (suc k) xs seen some few p =
-    let d = length_drop leaf_built xs in
-    leaves_row (suc n) k (drop leaf_built xs) _ (omega arith) (omega arith) (simp (length_take leaf_built xs) (omega arith), p)
+    let d = length-drop leaf_built xs in
+    leaves_row (suc n) k (drop leaf_built xs) _ (omega arith) (omega arith) (simp (length-take leaf_built xs) (omega arith), p)
 
 -- a built tree is whole
 pub build_whole : (xs : List Bool) → Whole (build xs)

@@ -2,12 +2,12 @@
 -- A pool of N nodes that is built has the numbers below N, in its tree and its free chain.
 use Prim.Native.Nat.{ℕ, zero, suc, ◌+◌, ◌-◌, ◌*◌}
 use native.Mathlib.Omega.{arith}
-use native.Mathlib.Nat.{zero_add}
+use native.Mathlib.Nat.{zero-add}
 use mathlib.Core.Path.{◌≡◌}
 use mathlib.Core.Bool.{Bool}
 use mathlib.Core.List.{List, [], ◌∷◌, reverse, reverse_aux}
 use mathlib.Core.Option.{Option, some}
-use lib.ListN.{length, take, drop, length_reverse}
+use lib.ListN.{length, take, drop, length-reverse}
 use Rattle.model.specs.Tree.{Tree, leaf, numbers}
 use Rattle.model.specs.Build.{leaf_built, leaf_count, built_leaves, round}
 use Rattle.model.specs.Build as Build
@@ -58,7 +58,7 @@ round_numbered leaves n ts p =
     let saved : ℕ = length ts - length (round n ts) in
     record {
       twice = omega (arith, round_most n ts);
-      below = λ w. omega (arith, round_weigh w n ts, p.below w, rw zero_add at (numbers_more w zero n saved));
+      below = λ w. omega (arith, round_weigh w n ts, p.below w, rw zero-add at (numbers_more w zero n saved));
     }
 
 -- a built tree has the numbers from 0 on, one for each node
@@ -66,7 +66,7 @@ pub build_numbers : (xs : List Bool) → Rearranged (numbers_from zero (nodes_fo
 unfolding nodes_for all_weigh
 build_numbers xs w =
     let k : ℕ = leaf_count (length xs) in
-    let e : length (reverse (built_leaves zero k xs)) ≡ k = simp (length_reverse, built_leaves_length) in
+    let e : length (reverse (built_leaves zero k xs)) ≡ k = simp (length-reverse, built_leaves_length) in
     let start : Numbered k k (reverse (built_leaves zero k xs)) =
     record { twice = omega arith; below = λ w. omega (arith, leaves_weigh w zero k xs []) } in
     let end = build_keeps (Numbered k) (round_numbered k) xs start in
@@ -82,7 +82,7 @@ pool_numbers n xs p =
     (λ room e w.
     let z : p ≡ record { tree = Build.build xs; free = numbers_from need (n - need) } = cc in
     let fits : need + (n - need) ≡ n = omega arith in
-    let all = rw (zero_add, fits) at (numbers_more w zero need (n - need)) in
+    let all = rw (zero-add, fits) at (numbers_more w zero need (n - need)) in
     rw (z, all_weight) (omega (arith, build_numbers xs w, numbers_weight w (Build.build xs), all)))
 
 -- so no number of a built pool stands twice

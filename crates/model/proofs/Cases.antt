@@ -6,7 +6,7 @@ use mathlib.Core.Bool.{Bool, true, false}
 use mathlib.Core.List.{List, ◌∷◌}
 use lib.Dec.{leb, ltb}
 use lib.ListN.{length, take, drop, get_or}
-use borrow.Author.Tests.{leb_true, leb_false, ltb_true, ltb_false, eqb_true, eqb_false, lt_ltb, le_ltb}
+use borrow.Author.Tests.{leb-true, leb-false, ltb-true, ltb-false, eqb-true, eqb-false, lt-ltb, le-ltb}
 use Rattle.model.specs.Tree.{Tree, leaf, fork, top, marks, size, height, first_leaf, last_leaf, renumber}
 use Rattle.model.specs.Turn.{turn_right, turn_left, leaning_left, leaning_right, rebalance, higher_by}
 use Rattle.model.specs.Edit.{leaf_split, leaf_half, leaf_low, leaf_least, splits, leaf_at, settle, insert, put_before, put_after, drop_first, drop_last, first_mark, last_mark, Trimmed, mend_left, mend_right, remove}
@@ -18,17 +18,17 @@ by_test false p q = q refl
 
 -- the tests of numbers
 pub by_leb : {P : Type 0} (m n : ℕ) → (leb m n ≡ true → m ≤ n → P) → (leb m n ≡ false → n < m → P) → P
-by_leb m n p q = by_test (leb m n) (λ e. p e (leb_true m n e)) (λ e. q e (leb_false m n e))
+by_leb m n p q = by_test (leb m n) (λ e. p e (leb-true m n e)) (λ e. q e (leb-false m n e))
 
 -- the same for the strict order
 pub by_ltb : {P : Type 0} (m n : ℕ) → (ltb m n ≡ true → m < n → P) → (ltb m n ≡ false → n ≤ m → P) → P
-by_ltb m n p q = by_test (ltb m n) (λ e. p e (ltb_true m n e)) (λ e. q e (ltb_false m n e))
+by_ltb m n p q = by_test (ltb m n) (λ e. p e (ltb-true m n e)) (λ e. q e (ltb-false m n e))
 
 -- the same for the test of heights
 by_higher : {P : Type 0} (n : ℕ) (t u : Tree) → (higher_by n t u ≡ true → height t ≡ height u + n → P)
     → (higher_by n t u ≡ false → (height t ≡ height u + n → ⊥) → P) → P
 unfolding higher_by
-by_higher n t u p q = by_test (higher_by n t u) (λ e. p e (eqb_true (height t) (height u + n) e)) (λ e. q e (eqb_false (height t) (height u + n) e))
+by_higher n t u p q = by_test (higher_by n t u) (λ e. p e (eqb-true (height t) (height u + n) e)) (λ e. q e (eqb-false (height t) (height u + n) e))
 
 -- ---- turns
 
@@ -74,12 +74,12 @@ insert_cases P i b free n l r p q = by_ltb i (size l) (λ e h. rw (insert, e) (p
 -- whether its leaf splits is asked of the child that it goes to
 pub splits_left : (i n : ℕ) (l r : Tree) → i < size l → splits i (fork n l r) ≡ splits i l
 unfolding splits leaf_at
-splits_left i n l r h = rw (splits, leaf_at, lt_ltb i (size l) h)
+splits_left i n l r h = rw (splits, leaf_at, lt-ltb i (size l) h)
 
 -- the mirror image
 pub splits_right : (i n : ℕ) (l r : Tree) → size l ≤ i → splits i (fork n l r) ≡ splits (i - size l) r
 unfolding splits leaf_at
-splits_right i n l r h = rw (splits, leaf_at, le_ltb i (size l) h)
+splits_right i n l r h = rw (splits, leaf_at, le-ltb i (size l) h)
 
 -- ---- remove
 

@@ -5,7 +5,7 @@ use native.Mathlib.Omega.{arith}
 use mathlib.Core.Path.{◌≡◌, refl}
 use mathlib.Core.Bool.{Bool}
 use mathlib.Core.List.{List, ◌++◌, append_assoc}
-use lib.ListN.{length, length_append, take_append_drop}
+use lib.ListN.{length, length-append, take-append-drop}
 use Rattle.model.specs.Marks as Marks
 use Rattle.model.specs.Tree.{Tree, leaf, fork, marks, size, first_leaf, last_leaf, renumber}
 use Rattle.model.specs.Turn.{turn_right, turn_left, leaning_left, leaning_right, rebalance}
@@ -17,7 +17,7 @@ use Rattle.model.proofs.MarksEdits.{insert_first, insert_past, remove_first, rem
 pub size_marks : (t : Tree) → size t ≡ length (marks t)
 unfolding size marks
 size_marks (leaf n xs) = refl
-size_marks (fork n l r) = simp (length_append, size_marks l, size_marks r)
+size_marks (fork n l r) = simp (length-append, size_marks l, size_marks r)
 
 -- ---- turns
 
@@ -63,7 +63,7 @@ rebalance_marks n l r =
 -- a leaf that splits keeps its marks
 pub settle_marks : (n : ℕ) (xs : List Bool) (free : List ℕ) → marks (settle n xs free) ≡ xs
 unfolding marks
-settle_marks n xs free = settle_cases (λ (t : Tree). marks t ≡ xs) n xs free (λ _. take_append_drop leaf_half xs) (λ _. refl)
+settle_marks n xs free = settle_cases (λ (t : Tree). marks t ≡ xs) n xs free (λ _. take-append-drop leaf_half xs) (λ _. refl)
 
 -- an insert puts its mark into the list
 pub insert_marks : (i : ℕ) (b : Bool) (free : List ℕ) (t : Tree) → i ≤ size t → marks (insert i b free t) ≡ Marks.insert i b (marks t)
@@ -94,13 +94,13 @@ put_after_marks ys (fork n l r) = simp (put_after_marks ys r, append_assoc)
 -- the mark taken off an end, and the rest, are the marks there were
 pub drop_first_marks : (t : Tree) → first_mark t ++ marks (drop_first t) ≡ marks t
 unfolding first_mark first_leaf drop_first marks
-drop_first_marks (leaf n xs) = take_append_drop 1 xs
+drop_first_marks (leaf n xs) = take-append-drop 1 xs
 drop_first_marks (fork n l r) = simp (← append_assoc, drop_first_marks l)
 
 -- the mirror image
 pub drop_last_marks : (t : Tree) → marks (drop_last t) ++ last_mark t ≡ marks t
 unfolding last_mark last_leaf drop_last marks
-drop_last_marks (leaf n xs) = take_append_drop (length xs - 1) xs
+drop_last_marks (leaf n xs) = take-append-drop (length xs - 1) xs
 drop_last_marks (fork n l r) = simp (append_assoc, drop_last_marks r)
 
 -- another number at the top changes no marks

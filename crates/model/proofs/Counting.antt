@@ -1,21 +1,21 @@
 -- Counting marks and finding the k-th: a list in two parts is counted part by part, and the k-th set bit stands in the first part exactly where
 -- that part has k of them. Quiets are counted as the set bits of the opposites.
 use Prim.Native.Nat.{ℕ, zero, suc, ◌+◌, ◌-◌, ◌≤◌, ◌<◌}
-use native.Mathlib.Nat.{zero_add, add_assoc, sub_zero, suc_sub_suc, not_suc_le_zero, le_of_suc_le_suc}
-use native.Mathlib.Numerals.{one_add}
+use native.Mathlib.Nat.{zero-add, add_assoc, sub-zero, suc-sub-suc, not-suc-le-zero, le_of_suc-le-suc}
+use native.Mathlib.Numerals.{one-add}
 use native.Mathlib.Omega.{arith}
 use mathlib.Core.Path.{◌≡◌, refl, sym, ap, ◌∙◌}
 use mathlib.Core.Bool.{Bool, true, false, not}
-use mathlib.Core.List.{List, [], ◌∷◌, ◌++◌, append_nil}
+use mathlib.Core.List.{List, [], ◌∷◌, ◌++◌, append-nil}
 use mathlib.Core.Option.{Option, none, some}
-use lib.ListN.{length, length_map}
+use lib.ListN.{length, length-map}
 use Rattle.model.specs.Marks.{ones, further, place, wanted, count, select}
 
 -- ---- parts
 
 pub ones_append : (xs ys : List Bool) → ones (xs ++ ys) ≡ ones xs + ones ys
 unfolding ones
-ones_append [] ys = sym (zero_add (ones ys))
+ones_append [] ys = sym (zero-add (ones ys))
 ones_append (true ∷ xs) ys = let h = ones_append xs ys in omega arith
 ones_append (false ∷ xs) ys = ones_append xs ys
 
@@ -28,7 +28,7 @@ ones_le (false ∷ xs) = let h = ones_le xs in omega arith
 pub further_zero : (o : Option ℕ) → further 0 o ≡ o
 unfolding further
 further_zero none = refl
-further_zero (some p) = ap some (zero_add p)
+further_zero (some p) = ap some (zero-add p)
 
 pub further_further : (m n : ℕ) (o : Option ℕ) → further m (further n o) ≡ further (m + n) o
 unfolding further
@@ -39,24 +39,24 @@ further_further m n (some p) = ap some (sym (add_assoc m n p))
 pub place_in_first : (k : ℕ) (xs ys : List Bool) → k ≤ ones xs → place k (xs ++ ys) ≡ place k xs
 unfolding ones place
 place_in_first zero xs ys h = refl
-place_in_first (suc k) [] ys h = absurd (not_suc_le_zero h)
+place_in_first (suc k) [] ys h = absurd (not-suc-le-zero h)
 place_in_first (suc zero) (true ∷ xs) ys h = refl
-place_in_first (suc (suc k)) (true ∷ xs) ys h = ap (further 1) (place_in_first (suc k) xs ys (le_of_suc_le_suc h))
+place_in_first (suc (suc k)) (true ∷ xs) ys h = ap (further 1) (place_in_first (suc k) xs ys (le_of_suc-le-suc h))
 place_in_first (suc k) (false ∷ xs) ys h = ap (further 1) (place_in_first (suc k) xs ys h)
 
 -- else it stands in the second part, where those of the first do not count
 pub place_in_second : (k : ℕ) (xs ys : List Bool) → ones xs < k → place k (xs ++ ys) ≡ further (length xs) (place (k - ones xs) ys)
 unfolding ones place
-place_in_second zero xs ys h = absurd (not_suc_le_zero h)
-place_in_second (suc k) [] ys h = rw sub_zero (sym (further_zero (place (suc k) ys)))
+place_in_second zero xs ys h = absurd (not-suc-le-zero h)
+place_in_second (suc k) [] ys h = rw sub-zero (sym (further_zero (place (suc k) ys)))
 place_in_second (suc zero) (true ∷ xs) ys h = absurd (omega arith)
 place_in_second (suc (suc k)) (true ∷ xs) ys h =
-    ap (further 1) (place_in_second (suc k) xs ys (le_of_suc_le_suc h))
+    ap (further 1) (place_in_second (suc k) xs ys (le_of_suc-le-suc h))
     ∙ further_further 1 (length xs) (place (suc k - ones xs) ys)
-    ∙ simp (one_add, suc_sub_suc)
+    ∙ simp (one-add, suc-sub-suc)
 place_in_second (suc k) (false ∷ xs) ys h =
     ap (further 1) (place_in_second (suc k) xs ys h) ∙ further_further 1 (length xs) (place (suc k - ones xs) ys)
-    ∙ simp one_add
+    ∙ simp one-add
 
 never : {A : Type 0} {p : ℕ} → none ≡ some p → A
 never e = let z : ◌≡◌ {A = ℕ} 0 1 = cc in absurd (omega arith)
@@ -70,7 +70,7 @@ step (some q) f p e = let z : 1 + q ≡ p = cc in omega (arith, f q refl)
 -- there is no k-th set bit where there are fewer
 pub place_none : (k : ℕ) (xs : List Bool) → ones xs < k → place k xs ≡ none
 unfolding place further
-place_none k xs h = rw (← append_nil xs) (place_in_second k xs [] h ∙ ap (further (length xs)) (nowhere (k - ones xs)))
+place_none k xs h = rw (← append-nil xs) (place_in_second k xs [] h ∙ ap (further (length xs)) (nowhere (k - ones xs)))
   where
     nowhere : (j : ℕ) → place j [] ≡ none
     nowhere zero = refl
@@ -109,7 +109,7 @@ wanted_append false (x ∷ xs) ys = ap {B = List Bool} (λ r. not x ∷ r) (want
 pub wanted_length : (b : Bool) (xs : List Bool) → length (wanted b xs) ≡ length xs
 unfolding wanted
 wanted_length true xs = refl
-wanted_length false xs = length_map xs not
+wanted_length false xs = length-map xs not
 
 -- every mark is a strike or a quiet one
 pub count_both : (xs : List Bool) → count true xs + count false xs ≡ length xs

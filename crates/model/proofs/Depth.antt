@@ -1,13 +1,13 @@
 -- No leaf is more than 12 levels down: a balanced tree of 13 levels has 610 leaves or more, and 1,023 nodes have room for 512.
 -- A subtree of few levels holds few marks, so every count fits a word.
 use Prim.Native.Nat.{ℕ, zero, suc, ◌+◌, ◌-◌, ◌*◌, ◌^◌, ◌≤◌, ◌<◌, max}
-use native.Mathlib.Nat.{le_refl, le_trans, le_suc, zero_add, suc_add, max_eq_left, max_eq_right, eq_or_lt_of_le}
+use native.Mathlib.Nat.{le_refl, le_trans, le-suc, zero-add, suc-add, max-eq_left, max-eq_right, eq-or-lt_of_le}
 use native.Mathlib.Omega.{arith}
 use mathlib.Core.Path.{◌≡◌, refl}
 use mathlib.Core.Bool.{Bool}
 use mathlib.Core.List.{◌++◌}
 use mathlib.Core.Logic.{⊎_elim}
-use lib.ListN.{length, length_append}
+use lib.ListN.{length, length-append}
 use lib.Pow.{pow_pos}
 use Rattle.model.specs.Limits.{most_nodes, levels}
 use Rattle.model.specs.Pool.{Pool, numbers_from}
@@ -26,8 +26,8 @@ fewest_step zero = omega arith
 fewest_step (suc h) = omega arith
 
 fewest_mono : (k h : ℕ) → fewest_leaves h ≤ fewest_leaves (k + h)
-fewest_mono zero h = rw zero_add (le_refl (fewest_leaves h))
-fewest_mono (suc k) h = rw suc_add (le_trans (fewest_mono k h) (fewest_step (k + h)))
+fewest_mono zero h = rw zero-add (le_refl (fewest_leaves h))
+fewest_mono (suc k) h = rw suc-add (le_trans (fewest_mono k h) (fewest_step (k + h)))
 
 -- two trees of one height, and two that differ by one level
 fewest_level : (h : ℕ) → fewest_leaves (suc h) ≤ fewest_leaves h + fewest_leaves h
@@ -37,16 +37,16 @@ fewest_level (suc h) = omega (arith, fewest_step h)
 
 fewest_join : (a b x y : ℕ) → a ≤ suc b → b ≤ suc a → fewest_leaves a ≤ x → fewest_leaves b ≤ y → fewest_leaves (suc (max a b)) ≤ x + y
 unfolding fewest_leaves
-fewest_join a b x y h l p q = by_leb a b (λ _ k. ⊎_elim level right (eq_or_lt_of_le k)) (λ _ k. left k)
+fewest_join a b x y h l p q = by_leb a b (λ _ k. ⊎_elim level right (eq-or-lt_of_le k)) (λ _ k. left k)
   where
     level : a ≡ b → fewest_leaves (suc (max a b)) ≤ x + y
-    level e = rw (e, max_eq_left (le_refl b)) (omega (arith, fewest_level b, rw e at p))
+    level e = rw (e, max-eq_left (le_refl b)) (omega (arith, fewest_level b, rw e at p))
 
     right : a < b → fewest_leaves (suc (max a b)) ≤ x + y
-    right k = let e : b ≡ suc a = omega arith in rw (e, max_eq_right (le_suc a)) (omega (arith, rw e at q))
+    right k = let e : b ≡ suc a = omega arith in rw (e, max-eq_right (le-suc a)) (omega (arith, rw e at q))
 
     left : b < a → fewest_leaves (suc (max a b)) ≤ x + y
-    left k = let e : a ≡ suc b = omega arith in rw (e, max_eq_left (le_suc b)) (omega (arith, rw e at p))
+    left k = let e : a ≡ suc b = omega arith in rw (e, max-eq_left (le-suc b)) (omega (arith, rw e at p))
 
 pub fewest : (t : Tree) → Balanced t → fewest_leaves (height t) ≤ leaf_total t
 unfolding height leaf_total fewest_leaves
@@ -57,7 +57,7 @@ fewest (fork n l r) b = fewest_join (height l) (height r) (leaf_total l) (leaf_t
 pub node_total : (t : Tree) → suc (length (numbers t)) ≡ 2 * leaf_total t
 unfolding numbers leaf_total
 node_total (leaf n xs) = refl
-node_total (fork n l r) = omega (arith, node_total l, node_total r, length_append (numbers l) (numbers r))
+node_total (fork n l r) = omega (arith, node_total l, node_total r, length-append (numbers l) (numbers r))
 
 -- no leaf of a sound pool is more than 12 levels down
 pub depth : (n : ℕ) (p : Pool) → n ≤ most_nodes → Sound n p → height p.tree ≤ levels
@@ -69,7 +69,7 @@ depth n p h s = by_leb (height p.tree) levels (λ _ k. k) (λ _ k. absurd (deep 
         let nodes : length (numbers_from 0 n) ≡ length (numbers p.tree ++ p.free) =
         rearranged_length (numbers_from 0 n) (numbers p.tree ++ p.free) s.each in
         let split : length (numbers p.tree ++ p.free) ≡ length (numbers p.tree) + length p.free =
-        length_append (numbers p.tree) p.free in
+        length-append (numbers p.tree) p.free in
         let few : fewest_leaves 13 ≤ fewest_leaves ((height p.tree - 13) + 13) = fewest_mono (height p.tree - 13) 13 in
         let back : (height p.tree - 13) + 13 ≡ height p.tree = omega arith in
         omega (arith, node_total p.tree, fewest p.tree s.balanced, rw back at few, numbers_from_length 0 n)

@@ -4,7 +4,7 @@ use Prim.Native.Nat.{ℕ, zero, suc, ◌+◌, ◌-◌, ◌*◌, ◌≤◌, ◌<�
 use native.Mathlib.Omega.{arith}
 use mathlib.Core.Path.{◌≡◌, sym, ◌∙◌}
 use mathlib.Core.Bool.{Bool, true, false}
-use lib.ListN.{length, length_append}
+use lib.ListN.{length, length-append}
 use Rattle.model.specs.Edit.{leaf_at, splits, leaf_split}
 use Rattle.model.specs.Limits.{most_leaves, most_nodes, floor_for, least_full}
 use Rattle.model.specs.Pool.{Pool, full, numbers_from, two_free}
@@ -49,7 +49,7 @@ full_size least i (fork n l r) few s =
 pub sound_nodes : (n : ℕ) (p : Pool) → Sound n p → length (numbers p.tree) + length p.free ≡ n
 unfolding all_numbers
 sound_nodes n p s =
-    sym (length_append (numbers p.tree) p.free) ∙ sym (rearranged_length (numbers_from 0 n) (all_numbers p) s.each) ∙ numbers_from_length 0 n
+    sym (length-append (numbers p.tree) p.free) ∙ sym (rearranged_length (numbers_from 0 n) (all_numbers p) s.each) ∙ numbers_from_length 0 n
 
 -- fewer than two of the nodes are free: the leaves are as many as the nodes allow
 pub sound_leaves : (n : ℕ) (p : Pool) → Sound n p → length p.free < 2 → leaf_total p.tree ≡ most_leaves n

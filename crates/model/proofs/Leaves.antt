@@ -5,7 +5,7 @@ use native.Mathlib.Omega.{arith}
 use mathlib.Core.Path.{◌≡◌, refl}
 use mathlib.Core.Bool.{Bool}
 use mathlib.Core.List.{List}
-use lib.ListN.{length, length_take, length_drop}
+use lib.ListN.{length, length-take, length-drop}
 use Rattle.model.specs.Marks as Marks
 use Rattle.model.specs.Tree.{Tree, leaf, fork, top, marks, size}
 use Rattle.model.specs.Turn.{turn_right, turn_left, leaning_left, leaning_right, rebalance}
@@ -87,7 +87,7 @@ settle_sized : (least n : ℕ) (xs : List Bool) (free : List ℕ) → least ≤ 
     → Sized least (settle n xs free)
 settle_sized least n xs free low p q =
     settle_cases (Sized least) n xs free
-    (λ full. simp (length_take leaf_half xs, length_drop leaf_half xs) (omega arith))
+    (λ full. simp (length-take leaf_half xs, length-drop leaf_half xs) (omega arith))
     (λ room. omega arith)
 
 -- an insert keeps the leaves neither too full nor too empty

@@ -5,7 +5,7 @@ use native.Mathlib.Omega.{arith}
 use mathlib.Core.Path.{◌≡◌, refl}
 use mathlib.Core.Bool.{Bool}
 use mathlib.Core.List.{List}
-use lib.ListN.{length, length_append, length_take, length_drop}
+use lib.ListN.{length, length-append, length-take, length-drop}
 use Rattle.model.specs.Tree.{Tree, leaf, fork, top, marks, size, first_leaf, last_leaf, renumber}
 use Rattle.model.specs.Edit.{leaf_least}
 use Rattle.model.specs.Sound.{leaf_most, Sized, Whole}
@@ -50,26 +50,26 @@ short_leaf least (fork n l r) s small = absurd (omega (arith, fork_size least n 
 put_before_sized : (least : ℕ) (ys : List Bool) (t : Tree) → length ys + length (first_leaf t) ≤ leaf_most → Sized least t
     → Sized least (put_before ys t)
 unfolding put_before first_leaf
-put_before_sized least ys (leaf n xs) h s = simp length_append (omega arith)
+put_before_sized least ys (leaf n xs) h s = simp length-append (omega arith)
 put_before_sized least ys (fork n l r) h s = (put_before_sized leaf_least ys l h s.0, s.1)
 
 -- marks put after the last leaf, where they fit
 put_after_sized : (least : ℕ) (ys : List Bool) (t : Tree) → length (last_leaf t) + length ys ≤ leaf_most → Sized least t
     → Sized least (put_after ys t)
 unfolding put_after last_leaf
-put_after_sized least ys (leaf n xs) h s = simp length_append (omega arith)
+put_after_sized least ys (leaf n xs) h s = simp length-append (omega arith)
 put_after_sized least ys (fork n l r) h s = (s.0, put_after_sized least ys r h s.1)
 
 -- the first mark taken off, where the first leaf can spare it
 drop_first_sized : (least : ℕ) (t : Tree) → least ≤ leaf_least → leaf_least < length (first_leaf t) → Sized least t → Sized least (drop_first t)
 unfolding drop_first first_leaf
-drop_first_sized least (leaf n xs) low h s = simp (length_drop 1 xs) (omega arith)
+drop_first_sized least (leaf n xs) low h s = simp (length-drop 1 xs) (omega arith)
 drop_first_sized least (fork n l r) low h s = (drop_first_sized leaf_least l (omega arith) h s.0, s.1)
 
 -- the last mark taken off, where the last leaf can spare it
 drop_last_sized : (least : ℕ) (t : Tree) → least < length (last_leaf t) → Sized least t → Sized least (drop_last t)
 unfolding drop_last last_leaf
-drop_last_sized least (leaf n xs) h s = simp length_take (omega arith)
+drop_last_sized least (leaf n xs) h s = simp length-take (omega arith)
 drop_last_sized least (fork n l r) h s = (s.0, drop_last_sized least r h s.1)
 
 -- another number at the top
@@ -81,24 +81,24 @@ renumber_sized least k (fork n l r) s = s
 -- a mark lent to a small tree, which is a single leaf, makes good what it is short of
 lent_after : (least : ℕ) (ys : List Bool) (t : Tree) → 1 ≤ least → length ys ≡ 1 → size t ≤ leaf_low → Short least t → Sized least (put_after ys t)
 unfolding put_after size
-lent_after least ys (leaf n xs) pos one small s = simp length_append (omega arith)
+lent_after least ys (leaf n xs) pos one small s = simp length-append (omega arith)
 lent_after least ys (fork n l r) pos one small s = absurd (omega (arith, fork_size least n l r s))
 
 -- the mirror image
 lent_before : (least : ℕ) (ys : List Bool) (t : Tree) → 1 ≤ least → length ys ≡ 1 → size t ≤ leaf_low → Short least t → Sized least (put_before ys t)
 unfolding put_before size
-lent_before least ys (leaf n xs) pos one small s = simp length_append (omega arith)
+lent_before least ys (leaf n xs) pos one small s = simp length-append (omega arith)
 lent_before least ys (fork n l r) pos one small s = absurd (omega (arith, fork_size least n l r s))
 
 -- the first mark is one mark
 first_mark_one : (t : Tree) → 1 ≤ length (first_leaf t) → length (first_mark t) ≡ 1
 unfolding first_mark
-first_mark_one t h = simp (length_take 1 (first_leaf t)) (omega arith)
+first_mark_one t h = simp (length-take 1 (first_leaf t)) (omega arith)
 
 -- and so is the last
 last_mark_one : (t : Tree) → 1 ≤ length (last_leaf t) → length (last_mark t) ≡ 1
 unfolding last_mark
-last_mark_one t h = simp (length_drop) (omega arith)
+last_mark_one t h = simp (length-drop) (omega arith)
 
 -- ---- remove
 

@@ -7,7 +7,7 @@ use mathlib.Core.Bool.{Bool, true, false}
 use mathlib.Core.List.{List, ◌∷◌, ◌++◌}
 use lib.Dec.{leb}
 use lib.ListN.{length, get_or}
-use borrow.Author.Tests.{le_leb, lt_leb}
+use borrow.Author.Tests.{le-leb, lt-leb}
 use Rattle.model.specs.Tree.{Tree, leaf, fork, top, marks, size, numbers, renumber}
 use Rattle.model.specs.Turn.{turn_right, turn_left, leaning_left, leaning_right, rebalance}
 use Rattle.model.specs.Edit.{leaf_least}
@@ -101,8 +101,8 @@ settle_weight : (w : ℕ → ℕ) (n : ℕ) (xs : List Bool) (free : List ℕ) �
 unfolding weight taken
 settle_weight w n xs free =
     settle_cases (λ (t : Tree). weight w t ≡ w n + taken w free (leb leaf_split (length xs))) n xs free
-    (λ full. rw (le_leb leaf_split (length xs) full) (omega arith))
-    (λ room. rw (lt_leb leaf_split (length xs) room) (omega arith))
+    (λ full. rw (le-leb leaf_split (length xs) full) (omega arith))
+    (λ room. rw (lt-leb leaf_split (length xs) room) (omega arith))
 
 -- an insert takes the first two free numbers where its leaf splits
 pub insert_weight : (w : ℕ → ℕ) (i : ℕ) (b : Bool) (free : List ℕ) (t : Tree) → i ≤ size t

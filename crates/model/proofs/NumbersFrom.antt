@@ -2,7 +2,7 @@
 -- Nothing here knows a tree.
 use Prim.Native.Nat.{ℕ, zero, suc, ◌+◌, ◌≤◌, ◌<◌}
 use native.Mathlib.Omega.{arith}
-use native.Mathlib.Nat.{zero_add, add_zero, suc_add}
+use native.Mathlib.Nat.{zero-add, add-zero, suc-add}
 use mathlib.Core.Path.{◌≡◌, refl, ap}
 use mathlib.Core.List.Memᴰ
 use mathlib.Core.List.{List, ◌∷◌, Memᴰ}
@@ -45,7 +45,7 @@ numbers_from_distinct n (suc k) = (λ h. omega (arith, numbers_from_bounds n (su
 -- so many numbers, and then so many more
 pub numbers_more : (w : ℕ → ℕ) (n j k : ℕ) → weigh w (numbers_from n (j + k)) ≡ weigh w (numbers_from n j) + weigh w (numbers_from (n + j) k)
 unfolding weigh numbers_from
-numbers_more w n zero k = simp (zero_add, add_zero)
+numbers_more w n zero k = simp (zero-add, add-zero)
 numbers_more w n (suc j) k =
     let e : n + suc j ≡ suc n + j = omega arith in
-    rw (e, suc_add j k) (omega (arith, numbers_more w (suc n) j k))
+    rw (e, suc-add j k) (omega (arith, numbers_more w (suc n) j k))

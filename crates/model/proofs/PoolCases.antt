@@ -7,7 +7,7 @@ use mathlib.Core.Bool.{Bool, true, false}
 use mathlib.Core.List.{List}
 use mathlib.Core.Option.{Option, none, some}
 use lib.ListN.{length, drop}
-use borrow.Author.Tests.{leb_true, leb_false}
+use borrow.Author.Tests.{leb-true, leb-false}
 use Rattle.model.specs.Build as Build
 use Rattle.model.specs.Edit as Edit
 use Rattle.model.specs.Edit.{splits}
@@ -38,8 +38,8 @@ insert_outcomes P may i b p refused split room =
 -- the window's rule
 pub two_free_yes : (p : Pool) → two_free p ≡ true → 2 ≤ length p.free
 unfolding two_free
-two_free_yes p e = omega (arith, leb_true)
+two_free_yes p e = omega (arith, leb-true)
 
 pub two_free_no : (p : Pool) → two_free p ≡ false → length p.free < 2
 unfolding two_free
-two_free_no p e = omega (arith, leb_false)
+two_free_no p e = omega (arith, leb-false)

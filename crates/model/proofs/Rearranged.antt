@@ -8,7 +8,7 @@ use mathlib.Core.List.Memᴰ
 use mathlib.Core.List.{List, [], ◌∷◌, ◌++◌, Memᴰ}
 use lib.Dec.{eqb}
 use lib.ListN.{length}
-use borrow.Author.Tests.{eqb_true, eq_eqb}
+use borrow.Author.Tests.{eqb-true, eq-eqb}
 use Rattle.model.specs.Sound.{Distinct}
 unfoldable pub use Rattle.model.specs.Sound.{weigh, Rearranged}
 use Rattle.model.proofs.Cases.{by_test, by_leb}
@@ -46,12 +46,12 @@ occurs k ns = weigh (hit k) ns
 -- two numbers are the same, or they are not
 by_hit : {P : Type 0} (k n : ℕ) → (k ≡ n → hit k n ≡ 1 → P) → (hit k n ≡ zero → P) → P
 unfolding hit
-by_hit k n p q = by_test (eqb k n) (λ e. p (eqb_true k n e) (rw (hit, e))) (λ e. q (rw (hit, e)))
+by_hit k n p q = by_test (eqb k n) (λ e. p (eqb-true k n e) (rw (hit, e))) (λ e. q (rw (hit, e)))
 
 -- a number is the same as itself
 hit_same : (k n : ℕ) → k ≡ n → hit k n ≡ 1
 unfolding hit
-hit_same k n e = rw (hit, eq_eqb k n e)
+hit_same k n e = rw (hit, eq-eqb k n e)
 
 -- a member occurs
 member_occurs : (k : ℕ) (ns : List ℕ) → Memᴰ k ns → 1 ≤ occurs k ns

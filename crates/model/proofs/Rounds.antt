@@ -5,7 +5,7 @@ use native.Mathlib.Omega.{arith}
 use mathlib.Core.Path.{◌≡◌, refl, ap}
 use mathlib.Core.Bool.{Bool}
 use mathlib.Core.List.{List, [], ◌∷◌, reverse}
-use lib.ListN.{length, drop, length_reverse}
+use lib.ListN.{length, drop, length-reverse}
 use Rattle.model.specs.Tree.{Tree}
 use Rattle.model.specs.Build.{leaf_built, leaf_count, built_leaves, round, foremost, rounds, build}
 
@@ -72,5 +72,5 @@ unfolding build
 build_keeps P keep xs p =
     let k : ℕ = leaf_count (length xs) in
     let some = leaf_count_some (length xs) in
-    let e : length (reverse (built_leaves zero k xs)) ≡ k = simp (length_reverse, built_leaves_length) in
+    let e : length (reverse (built_leaves zero k xs)) ≡ k = simp (length-reverse, built_leaves_length) in
     rounds_keep P keep k k (reverse (built_leaves zero k xs)) (omega arith) (omega arith) p

@@ -7,7 +7,7 @@ use mathlib.Core.Path.{◌≡◌, refl, ap, ◌∙◌}
 use mathlib.Core.Bool.{Bool, false}
 use mathlib.Core.List.{List, [], ◌++◌, map}
 use mathlib.Core.Option.{Option, some}
-use lib.ListN.{length, replicate, length_replicate}
+use lib.ListN.{length, replicate, length-replicate}
 use Rattle.model.specs.Build as Build
 use Rattle.model.specs.Build.{leaf_built, leaf_count}
 use Rattle.model.specs.Edit.{leaf_at}
@@ -38,7 +38,7 @@ unfolding nodes_for
 begun n least =
     let k : ℕ = most_leaves n - 1 in
     let xs : List Bool = replicate (leaf_built * k + 1) false in
-    let all : length xs ≡ leaf_built * k + 1 = length_replicate (leaf_built * k + 1) false in
+    let all : length xs ≡ leaf_built * k + 1 = length-replicate (leaf_built * k + 1) false in
     let need : ℕ = nodes_for (leaf_count (length xs)) in
     let many : leaf_count (length xs) ≡ suc k = ap leaf_count all ∙ leaf_count_short k in
     build_outcomes (λ (o : Option Pool). build n xs ≡ o → Begun n) n xs

@@ -6,9 +6,9 @@ use mathlib.Core.Path.{◌≡◌, refl, sym, ap, ◌∙◌}
 use mathlib.Core.Bool.{Bool, true, false}
 use mathlib.Core.List.{List, [], ◌∷◌, ◌++◌, map, reverse, reverse_aux}
 use mathlib.Core.Option.{Option, some}
-use lib.ListN.{length, take, drop, length_take, length_drop}
+use lib.ListN.{length, take, drop, length-take, length-drop}
 use lib.Dec.{ltb}
-use borrow.Author.Tests.{lt_ltb, le_ltb}
+use borrow.Author.Tests.{lt-ltb, le-ltb}
 use Rattle.model.specs.Build.{build, built_leaves, leaf_built, leaf_count, round}
 use Rattle.model.specs.Edit as Edit
 use Rattle.model.specs.Edit.{Trimmed, leaf_at, leaf_split, put_before, splits}
@@ -38,19 +38,19 @@ lessen i (fork n l r) = elim (ltb i (size l)) [ true ↦ fork n (lessen i l) r |
 
 lessen_left : (i n : ℕ) (l r : Tree) → i < size l → lessen i (fork n l r) ≡ fork n (lessen i l) r
 unfolding lessen
-lessen_left i n l r h = rw (lessen, lt_ltb i (size l) h)
+lessen_left i n l r h = rw (lessen, lt-ltb i (size l) h)
 
 lessen_right : (i n : ℕ) (l r : Tree) → size l ≤ i → lessen i (fork n l r) ≡ fork n l (lessen (i - size l) r)
 unfolding lessen
-lessen_right i n l r h = rw (lessen, le_ltb i (size l) h)
+lessen_right i n l r h = rw (lessen, le-ltb i (size l) h)
 
 leaf_left : (i n : ℕ) (l r : Tree) → i < size l → leaf_at i (fork n l r) ≡ leaf_at i l
 unfolding leaf_at
-leaf_left i n l r h = rw (leaf_at, lt_ltb i (size l) h)
+leaf_left i n l r h = rw (leaf_at, lt-ltb i (size l) h)
 
 leaf_right : (i n : ℕ) (l r : Tree) → size l ≤ i → leaf_at i (fork n l r) ≡ leaf_at (i - size l) r
 unfolding leaf_at
-leaf_right i n l r h = rw (leaf_at, le_ltb i (size l) h)
+leaf_right i n l r h = rw (leaf_at, le-ltb i (size l) h)
 
 -- a leaf holds no more than its tree
 leaf_at_size : (i : ℕ) (t : Tree) → length (leaf_at i t) ≤ size t
@@ -298,9 +298,9 @@ round_short n (r ∷ l ∷ s ∷ t ∷ more) e = e
 
 leaves_short : (n k : ℕ) (xs : List Bool) (seen : List Tree) → length xs ≡ leaf_built * k + 1 → Short (reverse_aux (built_leaves n (suc k) xs) seen)
 unfolding built_leaves last_leaf
-leaves_short n zero xs seen e = simp (length_take leaf_built xs) (omega arith)
+leaves_short n zero xs seen e = simp (length-take leaf_built xs) (omega arith)
 leaves_short n (suc k) xs seen e =
-    leaves_short (suc n) k (drop leaf_built xs) (leaf n (take leaf_built xs) ∷ seen) (omega (arith, length_drop leaf_built xs))
+    leaves_short (suc n) k (drop leaf_built xs) (leaf n (take leaf_built xs) ∷ seen) (omega (arith, length-drop leaf_built xs))
 
 short_ended : (t : Tree) → length (last_leaf t) ≡ 1 → Ended t
 unfolding last_leaf

@@ -7,7 +7,7 @@ use mathlib.Core.Bool.{Bool, true, false}
 use mathlib.Core.List.{List, [], ◌∷◌, ◌++◌}
 use mathlib.Core.Option.{Option, none, some}
 use lib.Dec.{leb, ltb}
-use lib.ListN.{length, drop, get_or, length_append}
+use lib.ListN.{length, drop, get_or, length-append}
 use Rattle.model.specs.Build as Build
 use Rattle.model.specs.Edit as Edit
 use Rattle.model.specs.Edit.{splits, leaf_split, leaf_at, settle}
@@ -123,7 +123,7 @@ other {b = b} t f = let e : ◌≡◌ {A = Bool} true false = sym t ∙ f in let
 pub insert_wider : (i : ℕ) (b : Bool) (p q : Pool) → i ≤ size p.tree → Wider p q → Steps (insert (two_free p) i b p) (insert (two_free q) i b q)
 insert_wider i b p q h w =
     let same : splits i q.tree ≡ splits i p.tree = ap (splits i) w.tree in
-    let more : length q.free ≡ length p.free + length w.more = ap length w.free ∙ length_append p.free w.more in
+    let more : length q.free ≡ length p.free + length w.more = ap length w.free ∙ length-append p.free w.more in
     insert_outcomes (λ (o : Option Pool). Steps o (insert (two_free q) i b q)) (two_free p) i b p
     (λ split few. insert_outcomes (Steps none) (two_free q) i b q
     (λ _ _. both_full refl refl)

@@ -5,7 +5,7 @@ use mathlib.Core.Path.{◌≡◌, refl, sym, ap, ap₂, ◌∙◌}
 use mathlib.Core.Bool.{false}
 use mathlib.Core.List.{List, [], ◌∷◌, ◌++◌}
 use lib.ListN.{length}
-use lib.Seq.{sets, sets_eq}
+use lib.Seq.{sets, sets-eq}
 use Rattle.text.specs.Text.{decimal_text, LinePut, newline, over}
 use Rattle.text.proofs.Digits.{decimal_few}
 use Rattle.text.proofs.Putting.{over_behind, over_length}
@@ -21,7 +21,7 @@ module _ (bs : List ℕ) (room : 12 ≤ length bs) where
   -- stored byte by byte it is put over the others
   stored : sets bs 0 heading ≡ over 0 heading bs
   unfolding over
-  stored = sets_eq heading bs 0 (omega arith)
+  stored = sets-eq heading bs 0 (omega arith)
 
   -- the first line is put where it is not passed over
   pub heading_put : (line n : ℕ) {e : ℕ} {bs' : List ℕ} → line ≤ 0 → n < 100000 → LinePut n 6 (sets bs 0 heading) e bs'

@@ -1,15 +1,15 @@
 -- Lines added to a sheet, one after the other: each is passed over, written, or ends the page; so lines that are all passed over only lower the
 -- pen's count, a full sheet stays, and from the start the page holds the lines that fit.
 use Prim.Native.Nat.{ℕ, zero, suc, ◌+◌, ◌-◌, ◌≤◌, ◌<◌}
-use native.Mathlib.Nat.{sub_zero}
+use native.Mathlib.Nat.{sub-zero}
 use native.Mathlib.Omega.{arith}
 use mathlib.Core.Path.{◌≡◌, refl, sym, ap, ◌∙◌}
 use mathlib.Core.Bool.{true, false}
 use mathlib.Core.List.{List, [], ◌∷◌, ◌++◌}
 use lib.Dec.{ltb}
-use lib.ListN.{length, drop, length_append}
-use lib.Seq.{append_snoc, drop_nil}
-use borrow.Author.Tests.{lt_ltb, le_ltb}
+use lib.ListN.{length, drop, length-append}
+use lib.Seq.{append_snoc, drop-nil}
+use borrow.Author.Tests.{lt-ltb, le-ltb}
 use Rattle.model.proofs.Cases.{by_ltb, by_test}
 use Rattle.text.specs.Text.{all_ended, decimal_text, LinePut, newline, over}
 use Rattle.text.proofs.Putting.{over_behind, over_length, over_none}
@@ -20,13 +20,13 @@ use Rattle.page.specs.Writing.{Sheet, add_line, all_added, filled, Kept, passed,
 
 -- a line with its newline
 pub ended_length : (l : List ℕ) → length (l ++ newline ∷ []) ≡ length l + 1
-ended_length l = length_append l (newline ∷ [])
+ended_length l = length-append l (newline ∷ [])
 
 module _ (s : Sheet) (l : List ℕ) where
   -- it is passed over
   pub line_passed : 0 < s.pen.skip → add_line s l ≡ passed 1 s
   unfolding add_line
-  line_passed h = rw (add_line, lt_ltb 0 s.pen.skip h)
+  line_passed h = rw (add_line, lt-ltb 0 s.pen.skip h)
 
   -- with one line less to be passed over
   pub line_skipped : {k : ℕ} → 0 < s.pen.skip → k ≡ s.pen.skip - 1
@@ -37,18 +37,18 @@ module _ (s : Sheet) (l : List ℕ) where
     -- one has not fitted before it
     pub line_after : s.pen.full ≡ true → add_line s l ≡ s
     unfolding add_line
-    line_after e = rw (add_line, le_ltb 0 s.pen.skip h, e) (rw (← e))
+    line_after e = rw (add_line, le-ltb 0 s.pen.skip h, e) (rw (← e))
 
     module _ (e : s.pen.full ≡ false) where
       -- it is written
       pub line_fits : s.pen.end + length l < length s.bytes → add_line s l ≡ with_line l s
       unfolding add_line
-      line_fits k = rw (add_line, le_ltb 0 s.pen.skip h, e, lt_ltb (s.pen.end + length l) (length s.bytes) k)
+      line_fits k = rw (add_line, le-ltb 0 s.pen.skip h, e, lt-ltb (s.pen.end + length l) (length s.bytes) k)
 
       -- it does not fit
       pub line_not : length s.bytes ≤ s.pen.end + length l → add_line s l ≡ filled s
       unfolding add_line
-      line_not k = rw (add_line, le_ltb 0 s.pen.skip h, e, le_ltb (s.pen.end + length l) (length s.bytes) k)
+      line_not k = rw (add_line, le-ltb 0 s.pen.skip h, e, le-ltb (s.pen.end + length l) (length s.bytes) k)
 
   -- what holds of each outcome holds of the sheet after it
   pub line_cases : (P : Sheet → Type 0) → (0 < s.pen.skip → P (passed 1 s)) → (s.pen.skip ≤ 0 → s.pen.full ≡ true → P s)
@@ -103,7 +103,7 @@ added_kept s (l ∷ ls) k = added_kept (add_line s l) ls (line_kept s l k)
 -- ---- lines to be passed over
 
 passed_none : (s : Sheet) → passed 0 s ≡ s
-passed_none s = rw (sub_zero s.pen.skip)
+passed_none s = rw (sub-zero s.pen.skip)
 
 -- lines that are all to be passed over are
 pub added_passed : (s : Sheet) (ls : List (List ℕ)) → length ls ≤ s.pen.skip → all_added s ls ≡ passed (length ls) s
@@ -139,7 +139,7 @@ fitting_room room [] = omega arith
 fitting_room room (l ∷ ls) =
     by_ltb (length l) room
     (λ e h. rw (fitting_lines, e)
-    (omega (arith, length_append l (newline ∷ all_ended (fitting_lines (room - suc (length l)) ls)), fitting_room (room - suc (length l)) ls)))
+    (omega (arith, length-append l (newline ∷ all_ended (fitting_lines (room - suc (length l)) ls)), fitting_room (room - suc (length l)) ls)))
     (λ e h. rw (fitting_lines, e) (omega arith))
 
 -- these lines have been written behind those of s
@@ -170,7 +170,7 @@ module _ (s : Sheet) (l : List ℕ) (ls : List (List ℕ)) (h : s.pen.end + leng
   room_left = omega (arith, long)
 
   fits_in : ltb (length l) (room_of s) ≡ true
-  fits_in = lt_ltb (length l) (room_of s) (omega arith)
+  fits_in = lt-ltb (length l) (room_of s) (omega arith)
 
   grown_more : {r : Sheet} → Grown (with_line l s) (fitting_lines (room_of s - suc (length l)) ls) r → Grown s (fitting_lines (room_of s) (l ∷ ls)) r
   unfolding fitting_lines all_ended
@@ -180,7 +180,7 @@ module _ (s : Sheet) (l : List ℕ) (ls : List (List ℕ)) (h : s.pen.end + leng
       let fit = fitting_room (room_of s - suc (length l)) ls in
       rw (fitting_lines, fits_in) (record {
         lines = omega (arith, g.lines);
-        end = omega (arith, g.end, length_append l (newline ∷ all_ended fs));
+        end = omega (arith, g.end, length-append l (newline ∷ all_ended fs));
         bytes =
             g.bytes ∙ ap (λ (k : ℕ). over k (all_ended fs) (over s.pen.end (l ++ newline ∷ []) s.bytes)) end
             ∙ over_behind s.pen.end (l ++ newline ∷ []) (all_ended fs) s.bytes (omega (arith, ended_length l))
@@ -190,7 +190,7 @@ module _ (s : Sheet) (l : List ℕ) (ls : List (List ℕ)) (h : s.pen.end + leng
 -- it does not fit, and none after it is written
 module _ (s : Sheet) (l : List ℕ) (ls : List (List ℕ)) (h : length s.bytes ≤ s.pen.end + length l) where
   fits_not : ltb (length l) (room_of s) ≡ false
-  fits_not = le_ltb (length l) (room_of s) (omega arith)
+  fits_not = le-ltb (length l) (room_of s) (omega arith)
 
   grown_no_more : Grown s (fitting_lines (room_of s) (l ∷ ls)) (filled s)
   unfolding fitting_lines
@@ -200,7 +200,7 @@ module _ (s : Sheet) (l : List ℕ) (ls : List (List ℕ)) (h : length s.bytes �
 pub added_page : (s : Sheet) (n : ℕ) (ls : List (List ℕ)) → s.pen.skip ≡ n → s.pen.full ≡ false → Kept s
     → Grown s (fitting_lines (room_of s) (drop n ls)) (all_added s ls)
 unfolding all_added
-added_page s n [] z e k = rw (drop_nil n) (grown_nothing s)
+added_page s n [] z e k = rw (drop-nil n) (grown_nothing s)
 added_page s (suc n) (l ∷ ls) z e k =
     let g = added_page (passed 1 s) n ls (omega arith) e (record { few = k.few; within = k.within }) in
     rw (line_passed s l (omega arith)) (record { lines = g.lines; end = g.end; bytes = g.bytes })

@@ -1,14 +1,14 @@
 -- The lines of strikes: those of two parts are those of the first and then those of the second, quiet frames bring none, and the first line of a
 -- word tells where its lowest one stands.
 use Prim.Native.Nat.{ℕ, zero, suc, ◌+◌, ◌-◌, ◌/◌, ◌%◌, ◌^◌, ◌≤◌, ◌<◌}
-use native.Mathlib.Nat.{add_zero, mod_eq_of_lt, zero_mod}
+use native.Mathlib.Nat.{add-zero, mod-eq_of_lt, zero-mod}
 use native.Mathlib.Omega.{arith}
 use mathlib.Core.Path.{◌≡◌, refl, sym, ap, ap₂, ◌∙◌}
 use mathlib.Core.Bool.{Bool, true, false}
-use mathlib.Core.List.{List, [], ◌∷◌, ◌++◌, append_nil}
+use mathlib.Core.List.{List, [], ◌∷◌, ◌++◌, append-nil}
 use lib.Count.{trailing_le}
 use lib.ListN.{length, replicate}
-use lib.Pow.{shr_lt, shr_shr}
+use lib.Pow.{shr_lt, shr-shr}
 use Rattle.model.specs.Marks.{count, ones, wanted}
 use Rattle.model.specs.Word.{bits, number, odd}
 use Rattle.model.proofs.Cases.{by_ltb}
@@ -22,7 +22,7 @@ use Rattle.page.specs.Writing.{strike_lines}
 
 pub lines_append : (n : ℕ) (xs ys : List Bool) → strike_lines n (xs ++ ys) ≡ strike_lines n xs ++ strike_lines (n + length xs) ys
 unfolding strike_lines strikes_from
-lines_append n [] ys = rw (add_zero n)
+lines_append n [] ys = rw (add-zero n)
 lines_append n (true ∷ xs) ys =
     let next : suc n + length xs ≡ n + suc (length xs) = omega arith in
     ap (λ (ls : List (List ℕ)). decimal_text n ∷ ls) (rw next at (lines_append (suc n) xs ys))
@@ -38,7 +38,7 @@ lines_quiet n (suc k) = lines_quiet (suc n) k
 pub lines_padded : (n k : ℕ) (xs : List Bool) → strike_lines n (xs ++ replicate k false) ≡ strike_lines n xs
 lines_padded n k xs =
     lines_append n xs (replicate k false) ∙ ap (λ (ls : List (List ℕ)). strike_lines n xs ++ ls) (lines_quiet (n + length xs) k)
-    ∙ append_nil (strike_lines n xs)
+    ∙ append-nil (strike_lines n xs)
 
 -- each strike has a line
 pub lines_count : (n : ℕ) (xs : List Bool) → length (strike_lines n xs) ≡ count true xs
@@ -50,7 +50,7 @@ lines_count n (false ∷ xs) = lines_count (suc n) xs
 -- quiet frames, and then a strike
 lines_struck : (n k : ℕ) (xs : List Bool) → strike_lines n (replicate k false ++ true ∷ xs) ≡ decimal_text (n + k) ∷ strike_lines (n + (k + 1)) xs
 unfolding strike_lines strikes_from
-lines_struck n zero xs = rw (add_zero n) (let next : suc n ≡ n + (0 + 1) = omega arith in ap (λ (m : ℕ). decimal_text n ∷ strike_lines m xs) next)
+lines_struck n zero xs = rw (add-zero n) (let next : suc n ≡ n + (0 + 1) = omega arith in ap (λ (m : ℕ). decimal_text n ∷ strike_lines m xs) next)
 lines_struck n (suc k) xs =
     let here : suc n + k ≡ n + suc k = omega arith in
     let next : suc n + (k + 1) ≡ n + (suc k + 1) = omega arith in
@@ -73,13 +73,13 @@ module _ (k r : ℕ) (width : k ≤ 64) (small : r < 2 ^ k) (some_one : 0 < r) w
       by_ltb (gap r) k (λ _ h. h)
       (λ _ h.
       let quiet : bits k r ≡ bits k 0 = all_quiet 64 k r width h ∙ sym (bits_zero k) in
-      let none : r ≡ 0 = sym (number_bits k r ∙ mod_eq_of_lt small) ∙ ap number quiet ∙ number_bits k 0 ∙ zero_mod (2 ^ k) in
+      let none : r ≡ 0 = sym (number_bits k r ∙ mod-eq_of_lt small) ∙ ap number quiet ∙ number_bits k 0 ∙ zero-mod (2 ^ k) in
       absurd (omega arith))
 
   pub rest_small : rest_of r < 2 ^ (k - (gap r + 1))
   rest_small =
       let whole : k - (gap r + 1) + (gap r + 1) ≡ k = omega (arith, gap_within) in
-      rw (shr_shr r (gap r) 1) (shr_lt (k - (gap r + 1)) (gap r + 1) (rw whole small))
+      rw (shr-shr r (gap r) 1) (shr_lt (k - (gap r + 1)) (gap r + 1) (rw whole small))
 
   -- the word's bits: zeros, the one above them, and the rest
   bits_next : bits k r ≡ replicate (gap r) false ++ true ∷ bits (k - (gap r + 1)) (rest_of r)

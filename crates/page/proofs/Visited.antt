@@ -1,7 +1,7 @@
 -- Visiting a tree that stands in words: the lines of a word's strikes are added from the lowest on, those of a leaf's words one after the other,
 -- and those of a left child before those of the right one.
 use Prim.Native.Nat.{ℕ, ◌+◌, ◌-◌, ◌^◌, ◌≤◌, ◌<◌}
-use native.Mathlib.Nat.{sub_zero}
+use native.Mathlib.Nat.{sub-zero}
 use native.Mathlib.Omega.{arith}
 use mathlib.Core.Path.{◌≡◌, refl, sym, ap, ◌∙◌}
 use mathlib.Core.Bool.{Bool, true, false}
@@ -137,5 +137,5 @@ pub page_held : (line : ℕ) (bs : List ℕ) (xs : List Bool) {n : ℕ} {r : She
     → Holds (fitting_lines (length bs) (drop line (list_lines xs))) bs (record { lines = r.pen.lines; end = r.pen.end }) r.bytes
 unfolding all_added list_lines strike_lines
 page_held line bs xs {n} {r} z e =
-    let g = rw (sub_zero (length bs)) at (added_page (start line bs) line (list_lines xs) refl refl (start_kept line bs)) in
+    let g = rw (sub-zero (length bs)) at (added_page (start line bs) line (list_lines xs) refl refl (start_kept line bs)) in
     rw (e, z) (record { lines = omega (arith, g.lines); end = omega (arith, g.end); bytes = g.bytes })

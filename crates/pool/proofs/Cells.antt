@@ -6,10 +6,10 @@ use mathlib.Core.Path.{◌≡◌, refl, sym, ap, ap₂, ◌∙◌}
 use mathlib.Core.Bool.{Bool, true, false}
 use mathlib.Core.List.{List, [], ◌∷◌}
 use mathlib.Core.Logic.{◌⊎◌, inl, inr, ⊎_elim}
-use borrow.Author.Tests.{ltb_true, ltb_false, lt_ltb, le_ltb}
+use borrow.Author.Tests.{ltb-true, ltb-false, lt-ltb, le-ltb}
 use lib.Dec.{ltb}
-use lib.ListN.{length, get_or, set, length_set}
-use lib.Seq.{sets, length_sets, get_or_set_same, get_or_set_other, set_get_or, ext_get_or}
+use lib.ListN.{length, get_or, set, length-set}
+use lib.Seq.{sets, length-sets, get_or-set_same, get_or-set_other, set-get_or, ext_get_or}
 use Rattle.bits.specs.declared.leaf.Leaf.{Leaf}
 use Rattle.pool.specs.Node.{LeafOrFork, OfTree, balance_in, free_cell, leaf_cell, leaf_words, fork_cell, fork_words, of_kind, node_of}
 use Rattle.pool.specs.Node.{nodes_in, cell_at, node_at, put, put_node, with_left, Put}
@@ -22,23 +22,23 @@ below_or_not : (k n : ℕ) → (k < n) ⊎ (n ≤ k)
 below_or_not k n = tested (ltb k n) refl
   where
     tested : (t : Bool) → ltb k n ≡ t → (k < n) ⊎ (n ≤ k)
-    tested true e = inl (ltb_true k n e)
-    tested false e = inr (ltb_false k n e)
+    tested true e = inl (ltb-true k n e)
+    tested false e = inr (ltb-false k n e)
 
 -- ---- a node's number is in range or not
 
 module _ (w : List ℕ) (n : ℕ) where
   pub node_in : n < nodes_in w → node_at w n ≡ node_of (cell_at w n)
   unfolding node_at
-  node_in h = rw (node_at, lt_ltb n (nodes_in w) h)
+  node_in h = rw (node_at, lt-ltb n (nodes_in w) h)
 
   pub node_out : nodes_in w ≤ n → node_at w n ≡ broken
   unfolding node_at
-  node_out h = rw (node_at, le_ltb n (nodes_in w) h)
+  node_out h = rw (node_at, le-ltb n (nodes_in w) h)
 
   pub put_out : (x : Cell) → nodes_in w ≤ n → put w n x ≡ w
   unfolding put
-  put_out x h = rw (put, le_ltb n (nodes_in w) h)
+  put_out x h = rw (put, le-ltb n (nodes_in w) h)
 
 -- ---- a cell by its words
 
@@ -72,18 +72,18 @@ word_at w n (suc (suc (suc (suc (suc (suc j)))))) h = absurd (omega arith)
 -- beside the run all is as it was
 getD_sets_out : (l : List ℕ) (i : ℕ) (vs : List ℕ) (j : ℕ) → (j < i) ⊎ (i + length vs ≤ j) → get_or (sets l i vs) j 0 ≡ get_or l j 0
 getD_sets_out l i [] j h = refl
-getD_sets_out l i (v ∷ vs) j (inl h) = getD_sets_out (set l i v) (suc i) vs j (inl (omega arith)) ∙ get_or_set_other l i j v 0 (λ e. omega arith)
-getD_sets_out l i (v ∷ vs) j (inr h) = getD_sets_out (set l i v) (suc i) vs j (inr (omega arith)) ∙ get_or_set_other l i j v 0 (λ e. omega arith)
+getD_sets_out l i (v ∷ vs) j (inl h) = getD_sets_out (set l i v) (suc i) vs j (inl (omega arith)) ∙ get_or-set_other l i j v 0 (λ e. omega arith)
+getD_sets_out l i (v ∷ vs) j (inr h) = getD_sets_out (set l i v) (suc i) vs j (inr (omega arith)) ∙ get_or-set_other l i j v 0 (λ e. omega arith)
 
 -- in the run stands what was stored
 getD_sets_in : (l : List ℕ) (i : ℕ) (vs : List ℕ) (j : ℕ) → j < length vs → i + length vs ≤ length l → get_or (sets l i vs) (i + j) 0 ≡ get_or vs j 0
 getD_sets_in l i [] j h f = absurd (omega arith)
 getD_sets_in l i (v ∷ vs) zero h f =
     ap (λ (k : ℕ). get_or (sets l i (v ∷ vs)) k 0) (omega arith)
-    ∙ getD_sets_out (set l i v) (suc i) vs i (inl (omega arith)) ∙ get_or_set_same l i v 0 (omega arith)
+    ∙ getD_sets_out (set l i v) (suc i) vs i (inl (omega arith)) ∙ get_or-set_same l i v 0 (omega arith)
 getD_sets_in l i (v ∷ vs) (suc j) h f =
     ap (λ (k : ℕ). get_or (sets l i (v ∷ vs)) k 0) (omega arith)
-    ∙ getD_sets_in (set l i v) (suc i) vs j (omega arith) (rw length_set (omega arith))
+    ∙ getD_sets_in (set l i v) (suc i) vs j (omega arith) (rw length-set (omega arith))
 
 -- a node's store is a run of six
 put_in : (w : List ℕ) (n : ℕ) (x : Cell) → n < nodes_in w → put w n x ≡ sets w (n * 6) (words x)
@@ -94,14 +94,14 @@ put_in w n x h =
     let c : n * 6 + 3 ≡ suc (suc (suc (n * 6))) = omega arith in
     let d : n * 6 + 4 ≡ suc (suc (suc (suc (n * 6)))) = omega arith in
     let e : n * 6 + 5 ≡ suc (suc (suc (suc (suc (n * 6))))) = omega arith in
-    rw (put, lt_ltb n (nodes_in w) h, a, b, c, d, e)
+    rw (put, lt-ltb n (nodes_in w) h, a, b, c, d, e)
 
 -- ---- what a store of six words does
 
 module _ (w : List ℕ) (n : ℕ) (x : Cell) where
   pub put_length : length (put w n x) ≡ length w
   put_length =
-      ⊎_elim (λ h. ap length (put_in w n x h) ∙ length_sets w (n * 6) (words x)) (λ h. ap length (put_out w n x h)) (below_or_not n (nodes_in w))
+      ⊎_elim (λ h. ap length (put_in w n x h) ∙ length-sets w (n * 6) (words x)) (λ h. ap length (put_out w n x h)) (below_or_not n (nodes_in w))
 
   pub cell_here : n < nodes_in w → cell_at (put w n x) n ≡ x
   cell_here h =
@@ -245,7 +245,7 @@ put_words w n broken h = absurd h
 
 -- a word that is set to what it is
 kept : (w : List ℕ) (i x : ℕ) → get_or w i 0 ≡ x → set w i x ≡ w
-kept w i x e = ap (set w i) (sym e) ∙ set_get_or w i 0
+kept w i x e = ap (set w i) (sym e) ∙ set-get_or w i 0
 
 -- setting what a fork says of its left child is putting the fork that says so
 pub put_left : (w : List ℕ) (n : ℕ) (f : Fork) (total ones : ℕ) → node_at w n ≡ fork f
@@ -259,9 +259,9 @@ put_left w n f total ones e =
     let e2 : set w (n * 6 + 2) f.right ≡ w = kept w (n * 6 + 2) f.right (ap (λ (x : Cell). x.third) s.1) in
     let e5 : set v (n * 6 + 5) f.balance ≡ v =
     kept v (n * 6 + 5) f.balance
-    (get_or_set_other (set w (n * 6 + 3) total) (n * 6 + 4) (n * 6 + 5) ones 0 (λ q. omega arith)
-    ∙ get_or_set_other w (n * 6 + 3) (n * 6 + 5) total 0 (λ q. omega arith) ∙ ap (λ (x : Cell). x.sixth) s.1) in
-    rw (put, lt_ltb n (nodes_in w) s.0, e0, e1, e2, e5)
+    (get_or-set_other (set w (n * 6 + 3) total) (n * 6 + 4) (n * 6 + 5) ones 0 (λ q. omega arith)
+    ∙ get_or-set_other w (n * 6 + 3) (n * 6 + 5) total 0 (λ q. omega arith) ∙ ap (λ (x : Cell). x.sixth) s.1) in
+    rw (put, lt-ltb n (nodes_in w) s.0, e0, e1, e2, e5)
 
 -- ---- words of whole nodes
 

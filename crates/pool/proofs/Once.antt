@@ -5,7 +5,7 @@ use mathlib.Core.Path.{◌≡◌, sym, ap, ◌∙◌}
 use mathlib.Core.List.Memᴰ
 use mathlib.Core.List.{List, [], ◌∷◌, Memᴰ}
 use mathlib.Core.Logic.{⊎_elim}
-use borrow.Author.Tests.{eqb_true, eqb_false}
+use borrow.Author.Tests.{eqb-true, eqb-false}
 use lib.Dec.{eqb}
 use lib.ListN.{length}
 use Rattle.model.specs.Tree as Tree
@@ -28,8 +28,8 @@ pub by_member : {P : Type 0} (k : ℕ) (ns : List ℕ) → (Memᴰ k ns → P) �
 by_member k [] p q = q Memᴰ.not_nil
 by_member k (n ∷ ns) p q =
     by_test (eqb k n)
-    (λ e. p (Memᴰ.head (eqb_true k n e)))
-    (λ e. by_member k ns (λ m. p (Memᴰ.tail m)) (λ out. q (λ m. ⊎_elim (eqb_false k n e) out (Memᴰ.cases_cons m))))
+    (λ e. p (Memᴰ.head (eqb-true k n e)))
+    (λ e. by_member k ns (λ m. p (Memᴰ.tail m)) (λ out. q (λ m. ⊎_elim (eqb-false k n e) out (Memᴰ.cases_cons m))))
 
 -- at each of its numbers a tree has one node, whatever words hold it
 pub its_node : (t : Tree) (k : ℕ) → Memᴰ k (numbers t) → (x : Node) × (x ≡ broken → ⊥) × ((w : List ℕ) → Holds w t → node_at w k ≡ x)

@@ -6,7 +6,7 @@ use mathlib.Core.Bool.{Bool, true, false}
 use mathlib.Core.List.Memᴰ
 use mathlib.Core.List.{List, [], ◌∷◌, ◌++◌, Memᴰ}
 use lib.ListN.{length, take, replicate}
-use lib.Seq.{take_append_seam}
+use lib.Seq.{take-append_seam}
 use Rattle.model.specs.Marks.{count}
 use Rattle.model.specs.Pool.{Pool}
 use Rattle.model.specs.Sound.{Sized}
@@ -43,9 +43,9 @@ chained_same w w' end (n ∷ ns) same h = (same n (Memᴰ.head refl) ∙ h.0, ch
 -- a leaf holds one list of a length
 leaf_marks : (xs ys : List Bool) → length xs ≤ 128 → length xs ≡ length ys → leaf_of xs ≡ leaf_of ys → xs ≡ ys
 leaf_marks xs ys h l e =
-    sym (take_append_seam xs (replicate (128 - length xs) false))
+    sym (take-append_seam xs (replicate (128 - length xs) false))
     ∙ ap (take (length xs)) (sym (held_bits xs h) ∙ ap bits_of e ∙ held_bits ys (omega arith))
-    ∙ rw l (take_append_seam ys (replicate (128 - length ys) false))
+    ∙ rw l (take-append_seam ys (replicate (128 - length ys) false))
 
 -- two trees that stand in the same words at the same number and hold as many marks are the same
 pub holds_one : (w : List ℕ) (t u : Tree) → Sized 0 t → Sized 0 u → top t ≡ top u → size t ≡ size u → Holds w t → Holds w u → t ≡ u

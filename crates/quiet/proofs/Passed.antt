@@ -1,15 +1,15 @@
 -- Marks that have gone by: one after the other they go by as all at once, and the longest quiet of a watch from the start is that of the list.
 use Prim.Native.Nat.{ℕ, zero, suc, ◌+◌, ◌-◌, ◌/◌, ◌%◌, ◌^◌, ◌≤◌, ◌<◌, max}
-use native.Mathlib.Nat.{add_zero, div_one, max_eq_left, max_eq_right, pow_suc}
-use native.Mathlib.Numerals.{add_one, one_add}
+use native.Mathlib.Nat.{add-zero, div-one, max-eq_left, max-eq_right, pow-suc}
+use native.Mathlib.Numerals.{add-one, one-add}
 use native.Mathlib.Omega.{arith}
 use mathlib.Core.Path.{◌≡◌, refl, sym, ap, ap₂, ◌∙◌}
 use mathlib.Core.Bool.{Bool, true, false}
 use mathlib.Core.List.{List, [], ◌∷◌, ◌++◌}
 use lib.Count.{count_trailing_zeros}
 use lib.ListN.{length, take, replicate}
-use lib.Pow.{pow_pos, shr_le, shr_shr}
-use lib.Seq.{take_append_add, take_append_le, take_append_seam}
+use lib.Pow.{pow_pos, shr_le, shr-shr}
+use lib.Seq.{take-append-add, take-append-le, take-append_seam}
 use Rattle.model.specs.Marks.{greatest, longest_quiet, quiets, quiets_since}
 use Rattle.model.specs.Word.{bits, odd}
 use Rattle.model.proofs.Cases.{by_ltb}
@@ -46,7 +46,7 @@ longest_after : (since longest : ℕ) (xs : List Bool)
 unfolding watched step ended quiets_since greatest
 longest_after since longest [] = omega arith
 longest_after since longest (true ∷ xs) = omega (arith, longest_after 0 (max longest since) xs)
-longest_after since longest (false ∷ xs) = rw (← add_one since) (longest_after (since + 1) longest xs)
+longest_after since longest (false ∷ xs) = rw (← add-one since) (longest_after (since + 1) longest xs)
 
 -- before the first strike, however many quiet frames have passed
 longest_before : (since longest : ℕ) (xs : List Bool)
@@ -66,12 +66,12 @@ module _ (w : Watch) where
   -- it ends the longest quiet so far
   pub strike_longer : w.struck ≡ true → w.longest < w.since → record { struck = true; since = 0; longest = w.since } ≡ step w true
   unfolding step ended
-  strike_longer s l = rw (s, max_eq_right {n = w.longest} {m = w.since} (omega arith))
+  strike_longer s l = rw (s, max-eq_right {n = w.longest} {m = w.since} (omega arith))
 
   -- it ends a shorter one
   pub strike_shorter : w.struck ≡ true → w.since ≤ w.longest → record { struck = true; since = 0; longest = w.longest } ≡ step w true
   unfolding step ended
-  strike_shorter s l = rw (s, max_eq_left {n = w.longest} {m = w.since} l)
+  strike_shorter s l = rw (s, max-eq_left {n = w.longest} {m = w.since} l)
 
   -- the first one ends none
   pub strike_first : w.struck ≡ false → record { struck = true; since = 0; longest = w.longest } ≡ step w true
@@ -88,7 +88,7 @@ module _ (w : Watch) where
 -- quiet frames go by one after the other
 pub watched_quiets : (n : ℕ) (w : Watch) → watched w (replicate n false) ≡ later n w
 unfolding watched step
-watched_quiets zero w = rw (add_zero w.since)
+watched_quiets zero w = rw (add-zero w.since)
 watched_quiets (suc n) w =
     watched_quiets n (step w false)
     ∙ ap (λ (k : ℕ). record { struck = w.struck; since = k; longest = w.longest }) (let k : w.since + 1 + n ≡ w.since + suc n = omega arith in k)
@@ -96,7 +96,7 @@ watched_quiets (suc n) w =
 -- a strike right after another changes nothing
 strike_again : (w : Watch) → step (step w true) true ≡ step w true
 unfolding step ended
-strike_again w = rw (max_eq_left {n = ended w.struck w.since w.longest} {m = 0} (omega arith))
+strike_again w = rw (max-eq_left {n = ended w.struck w.since w.longest} {m = 0} (omega arith))
 
 watched_strikes : (n : ℕ) (w : Watch) → watched (step w true) (replicate n true) ≡ step w true
 unfolding watched
@@ -128,8 +128,8 @@ one_above (suc k) r l =
     (λ e.
     let t : ℕ = count_trailing_zeros k (r / 2) in
     let m : suc t < suc k = rw e at l in
-    rw (e, ← one_add t, ← shr_shr r 1 t) (one_above k (r / 2) (omega arith)))
-    (λ e. rw (e, div_one r) e)
+    rw (e, ← one-add t, ← shr-shr r 1 t) (one_above k (r / 2) (omega arith)))
+    (λ e. rw (e, div-one r) e)
 
 -- a word and its inverse
 module _ (k r : ℕ) (h : r < 2 ^ suc k) where
@@ -150,7 +150,7 @@ all_struck (suc k) (suc n) r b h l =
     (λ e. let m : suc n ≤ 0 = rw e at l' in absurd (omega arith))
     (λ e.
     let m : suc n ≤ suc (count_trailing_zeros k (2 ^ k - 1 - r / 2)) = rw e at l' in
-    rw e (ap {B = List Bool} (λ xs. true ∷ xs) (all_struck k n (r / 2) (omega (arith, pow_suc 2 k)) (omega arith) (omega arith))))
+    rw e (ap {B = List Bool} (λ xs. true ∷ xs) (all_struck k n (r / 2) (omega (arith, pow-suc 2 k)) (omega arith) (omega arith))))
 
 -- and where a strike stands lowest, the inverse has one zero at least
 some_struck : (k r : ℕ) → r < 2 ^ suc k → r % 2 ≡ 1 → 1 ≤ count_trailing_zeros (suc k) (2 ^ suc k - 1 - r)
@@ -222,16 +222,16 @@ module _ (w : Watch) (n r : ℕ) (h : n ≤ 64) where
 module _ (x : Leaf) (n : ℕ) where
   pub leaf_low : n ≤ 64 → bits n x.low ≡ take n (bits_of x)
   unfolding bits_of
-  leaf_low h = sym (take_append_le n (bits 64 x.low) (bits 64 x.high) (omega (arith, bits_length 64 x.low)) ∙ take_bits n 64 x.low h)
+  leaf_low h = sym (take-append-le n (bits 64 x.low) (bits 64 x.high) (omega (arith, bits_length 64 x.low)) ∙ take_bits n 64 x.low h)
 
   pub leaf_both : 64 ≤ n → n ≤ 128 → bits 64 x.low ++ bits (n - 64) x.high ≡ take n (bits_of x)
   unfolding bits_of
   leaf_both h l =
       let at : length (bits 64 x.low) + (n - 64) ≡ n = omega (arith, bits_length 64 x.low) in
-      sym (rw at at (take_append_add (bits 64 x.low) (bits 64 x.high) (n - 64))
+      sym (rw at at (take-append-add (bits 64 x.low) (bits 64 x.high) (n - 64))
       ∙ ap (λ (ys : List Bool). bits 64 x.low ++ ys) (take_bits (n - 64) 64 x.high (omega arith)))
 
 -- the first bits of a leaf are the marks that it holds
 pub leaf_first : (x : Leaf) (xs : List Bool) → x ≡ leaf_of xs → length xs ≤ 127 → take (length xs) (bits_of x) ≡ xs
 leaf_first x xs e h =
-    rw (e, held_bits xs (omega arith)) (take_append_seam xs (replicate (128 - length xs) false))
+    rw (e, held_bits xs (omega arith)) (take-append_seam xs (replicate (128 - length xs) false))

@@ -6,7 +6,7 @@ use borrow.Rule.Slice.PartMut.{put_mid}
 use mathlib.Core.Path.{◌≡◌, sym, ap, ◌∙◌}
 use mathlib.Core.Bool.{Bool, true}
 use mathlib.Core.List.{List, [], ◌∷◌, ◌++◌, Memᴰ}
-use lib.ListN.{length, take, drop, get_or, length_drop}
+use lib.ListN.{length, take, drop, get_or, length-drop}
 use lib.Seq.{take_all}
 use lib.Dec.{leb}
 use Rattle.model.specs.Pool.{Pool, numbers_from, two_free}
@@ -43,7 +43,7 @@ module _ {ws : List ℕ} {n : ℕ} {p : Pool} (s : Stands ws n p) where
   unfolding trailer_of
   known t e =
       let same : t ≡ trailer_in (drop (n * 6) ws) =
-      e ∙ ap trailer_in (take_all (length ws - n * 6) (drop (n * 6) ws) (omega (arith, length_drop (n * 6) ws))) in
+      e ∙ ap trailer_in (take_all (length ws - n * 6) (drop (n * 6) ws) (omega (arith, length-drop (n * 6) ws))) in
       record {
         root = ap (λ (x : Trailer). x.root) same ∙ stands_root ws n s.counted p s;
         total = ap (λ (x : Trailer). x.length) same ∙ stands_length ws n s.counted p s;

@@ -2,9 +2,9 @@
 use Prim.Native.Nat.{ℕ, suc, ◌+◌, ◌*◌, ◌≤◌, ◌<◌}
 use native.Mathlib.Omega.{arith}
 use mathlib.Core.Path.{◌≡◌, refl, sym, ap, ◌∙◌}
-use mathlib.Core.List.{List, [], ◌∷◌, ◌++◌, append_nil, append_assoc}
-use lib.ListN.{length, drop, get_or, set, length_append, length_drop, drop_of_length_le}
-use lib.Seq.{drop_cons, set_at}
+use mathlib.Core.List.{List, [], ◌∷◌, ◌++◌, append-nil, append_assoc}
+use lib.ListN.{length, drop, get_or, set, length-append, length-drop, drop_of_length-le}
+use lib.Seq.{drop-cons, set_at}
 use Rattle.model.specs.Pool.{Pool}
 use Rattle.order.specs.Answer.{code, value}
 use Rattle.window.specs.Layout.{Stands}
@@ -16,7 +16,7 @@ use Rattle.order.specs.declared.answer.Answer.{Answer}
 
 -- what is left of a list, by its next word, its next two and its next three
 next : (ws : List ℕ) (j k : ℕ) → k ≡ suc j → j < length ws → drop j ws ≡ get_or ws j 0 ∷ drop k ws
-next ws j k e h = rw e (drop_cons ws j 0 h)
+next ws j k e h = rw e (drop-cons ws j 0 h)
 
 next_two : (ws : List ℕ) (j : ℕ) → j + 2 ≤ length ws → drop j ws ≡ get_or ws j 0 ∷ get_or ws (j + 1) 0 ∷ drop (j + 2) ws
 next_two ws j h = next ws j (j + 1) (omega arith) (omega arith) ∙ ap (◌∷◌ (get_or ws j 0)) (next ws (j + 1) (j + 2) (omega arith) (omega arith))
@@ -30,7 +30,7 @@ set_two : (xs rest : List ℕ) (a b c d : ℕ) (j : ℕ) → length xs ≡ j →
 set_two xs rest a b c d j e =
     ap (λ (vs : List ℕ). set vs (j + 1) b) (set_at xs c (d ∷ rest) a j e)
     ∙ ap (λ (vs : List ℕ). set vs (j + 1) b) (sym (append_assoc xs (a ∷ []) (d ∷ rest)))
-    ∙ set_at (xs ++ a ∷ []) d rest b (j + 1) (length_append xs (a ∷ []) ∙ omega arith)
+    ∙ set_at (xs ++ a ∷ []) d rest b (j + 1) (length-append xs (a ∷ []) ∙ omega arith)
     ∙ append_assoc xs (a ∷ []) (b ∷ rest)
     ∙ sym (append_assoc xs (a ∷ b ∷ []) rest)
 
@@ -53,7 +53,7 @@ reached_none {p = p} orders out s = record { pool = p; written = []; stands = s;
 module _ {n : ℕ} {orders out : List ℕ} {p : Pool} {i : ℕ} {ws out' : List ℕ} (r : Reached n orders out p i ws out') where
   -- the output is as long as it was
   pub reached_length : i * 2 ≤ length out → length out' ≡ length out
-  reached_length h = ap length r.output ∙ length_append r.written (drop (i * 2) out) ∙ omega (arith, r.size, length_drop (i * 2) out)
+  reached_length h = ap length r.output ∙ length-append r.written (drop (i * 2) out) ∙ omega (arith, r.size, length-drop (i * 2) out)
 
   -- one order more, answered in two words
   pub reached_more : {ws' : List ℕ} {a : Answer} {x y : ℕ} → i * 3 + 3 ≤ length orders → i * 2 + 2 ≤ length out
@@ -70,7 +70,7 @@ module _ {n : ℕ} {orders out : List ℕ} {p : Pool} {i : ℕ} {ws out' : List 
         pool = after o r.pool;
         written = r.written ++ x ∷ y ∷ [];
         stands = s.stands;
-        size = length_append r.written (x ∷ y ∷ []) ∙ omega (arith, r.size);
+        size = length-append r.written (x ∷ y ∷ []) ∙ omega (arith, r.size);
         output =
             ap (λ (vs : List ℕ). set (set vs (i * 2) x) (i * 2 + 1) y) (r.output ∙ ap (◌++◌ r.written) (next_two out (i * 2) k))
             ∙ set_two r.written (drop (i * 2 + 2) out) x y _ _ (i * 2) r.size ∙ rw two;
@@ -83,8 +83,8 @@ module _ {n : ℕ} {orders out : List ℕ} {p : Pool} {i : ℕ} {ws out' : List 
       × (out' ≡ answer_words (answers (orders_of orders) p) ++ drop (i * 2) out)
   unfolding orders_of answers after_all answer_words
   reached_all e =
-      let rest : drop (i * 3) orders ≡ [] = drop_of_length_le orders {i = i * 3} (omega arith) in (
+      let rest : drop (i * 3) orders ≡ [] = drop_of_length-le orders {i = i * 3} (omega arith) in (
         rw (← (rw rest at r.leaves)) r.stands,
         r.output
-            ∙ ap (λ (vs : List ℕ). vs ++ drop (i * 2) out) (sym (append_nil r.written) ∙ rw rest at r.writes),
+            ∙ ap (λ (vs : List ℕ). vs ++ drop (i * 2) out) (sym (append-nil r.written) ∙ rw rest at r.writes),
       )

@@ -4,7 +4,7 @@ use native.Mathlib.Omega.{arith}
 use mathlib.Core.Path.{◌≡◌, ap}
 use mathlib.Core.List.{List, [], ◌∷◌, ◌++◌}
 use mathlib.Core.Option.{Option, none, some}
-use lib.ListN.{length, drop, length_append}
+use lib.ListN.{length, drop, length-append}
 use Rattle.model.specs.Tree.{marks, size}
 use Rattle.model.specs.Word.{words_for}
 use Rattle.model.proofs.Cases.{by_leb, by_ltb}
@@ -24,8 +24,8 @@ unfolding line_text
 line_length c v ws =
     omega (
       arith,
-      length_append (two_text c v ++ words_text ws) (newline ∷ []),
-      length_append (two_text c v) (words_text ws),
+      length-append (two_text c v ++ words_text ws) (newline ∷ []),
+      length-append (two_text c v) (words_text ws),
       two_length c v,
       words_text_length ws,
     )

@@ -5,8 +5,8 @@ use mathlib.Core.Path.{◌≡◌, refl, sym, ap, ap₂, ◌∙◌}
 use mathlib.Core.Bool.{true, false}
 use mathlib.Core.List.{List, [], ◌∷◌, ◌++◌}
 use mathlib.Core.Option.{Option, none, some}
-use lib.ListN.{length, take, drop, get_or, take_append_drop}
-use lib.Seq.{take_at, drop_at, length_take_le}
+use lib.ListN.{length, take, drop, get_or, take-append-drop}
+use lib.Seq.{take_at, drop_at, length-take-le}
 use Rattle.model.specs.Build.{build, leaf_count}
 use Rattle.model.specs.Limits.{most_nodes}
 use Rattle.model.specs.Pool as Pool
@@ -81,7 +81,7 @@ pub counted_in : (ws : List ℕ) (n : ℕ) → length ws ≡ 6144 → sized n �
 counted_in ws n l e =
     let b = sized_bounds n e in
     record {
-      words = length_take_le (extent_of n) ws (omega (arith, extent_most n)) ∙ extent_sized n e;
+      words = length-take-le (extent_of n) ws (omega (arith, extent_most n)) ∙ extent_sized n e;
       some = b.0;
       most = b.1;
     }
@@ -137,7 +137,7 @@ module _ (ws vs : List ℕ) (k : ℕ) (h : length vs ≡ k) where
   dropped_back = drop_at vs (drop k ws) k h
 
 pub untouched : (ws vs : List ℕ) (k : ℕ) → vs ≡ take k ws → vs ++ drop k ws ≡ ws
-untouched ws vs k e = ap (λ (us : List ℕ). us ++ drop k ws) e ∙ take_append_drop k ws
+untouched ws vs k e = ap (λ (us : List ℕ). us ++ drop k ws) e ∙ take-append-drop k ws
 
 abbrev kind : State → ℕ
 kind nothing = 0

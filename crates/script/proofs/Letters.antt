@@ -1,11 +1,11 @@
 -- Texts that are put one behind the other make one text.
 use Prim.Native.Nat.{ℕ, suc, ◌+◌, ◌*◌, ◌≤◌, ◌<◌}
-use native.Mathlib.Nat.{zero_add}
+use native.Mathlib.Nat.{zero-add}
 use native.Mathlib.Omega.{arith}
 use mathlib.Core.Path.{◌≡◌, refl, sym, ap, ap₂, ◌∙◌}
-use mathlib.Core.List.{List, [], ◌∷◌, ◌++◌, append_assoc, append_nil}
-use lib.ListN.{length, take, get_or, length_append}
-use lib.Seq.{length_take_le, take_suc}
+use mathlib.Core.List.{List, [], ◌∷◌, ◌++◌, append_assoc, append-nil}
+use lib.ListN.{length, take, get_or, length-append}
+use lib.Seq.{length-take-le, take-suc}
 use Rattle.text.specs.Text.{decimal_text, hex_text, newline, over, space}
 use Rattle.text.proofs.Putting.{decimal_length, hex_length, over_behind, over_length, over_none}
 use Rattle.script.specs.Prints.{line_text, words_text}
@@ -24,7 +24,7 @@ put_length at a bs mid bs' p h = ap length p.bytes ∙ over_length at a bs h
 pub put_both : (at : ℕ) (a b bs : List ℕ) (mid end : ℕ) (bs' bs'' : List ℕ) → Put at a bs mid bs' → Put mid b bs' end bs''
     → at + length a + length b ≤ length bs → Put at (a ++ b) bs end bs''
 put_both at a b bs mid end bs' bs'' p q h = record {
-  ends = omega (arith, q.ends, p.ends, length_append a b);
+  ends = omega (arith, q.ends, p.ends, length-append a b);
   bytes = q.bytes ∙ ap₂ (λ (m : ℕ) (xs : List ℕ). over m b xs) p.ends p.bytes ∙ over_behind at a b bs h;
 }
 
@@ -34,7 +34,7 @@ abbrev pub two_text : ℕ → ℕ → List ℕ
 two_text c v = decimal_text c ++ (space ∷ decimal_text v)
 
 pub two_length : (c v : ℕ) → length (two_text c v) ≤ 41
-two_length c v = omega (arith, length_append (decimal_text c) (space ∷ decimal_text v), (decimal_length c).1, (decimal_length v).1)
+two_length c v = omega (arith, length-append (decimal_text c) (space ∷ decimal_text v), (decimal_length c).1, (decimal_length v).1)
 
 module _ (c v : ℕ) (out : List ℕ) (e₁ : ℕ) (out₁ : List ℕ) (room : 41 ≤ length out) (p : Put 0 (decimal_text c) out e₁ out₁) where
   code_put : (e₁ ≤ 20) × (length out₁ ≡ length out)
@@ -59,14 +59,14 @@ module _ (c v : ℕ) (out : List ℕ) (e₁ : ℕ) (out₁ : List ℕ) (room : 4
     two_put e₃ out₃ r =
         rw (append_assoc (decimal_text c) (space ∷ []) (decimal_text v)) at
         (put_both 0 (decimal_text c ++ (space ∷ [])) (decimal_text v) out e₂ e₃ out₂ out₃ space_put r
-        (omega (arith, length_append (decimal_text c) (space ∷ []), (decimal_length c).1, (decimal_length v).1)))
+        (omega (arith, length-append (decimal_text c) (space ∷ []), (decimal_length c).1, (decimal_length v).1)))
 
 -- ---- words
 
 pub words_text_length : (ws : List ℕ) → length (words_text ws) ≡ 17 * length ws
 unfolding words_text
 words_text_length [] = refl
-words_text_length (w ∷ ws) = length_append (space ∷ hex_text w) (words_text ws) ∙ omega (arith, hex_length w, words_text_length ws)
+words_text_length (w ∷ ws) = length-append (space ∷ hex_text w) (words_text ws) ∙ omega (arith, hex_length w, words_text_length ws)
 
 words_text_append : (ws vs : List ℕ) → words_text (ws ++ vs) ≡ words_text ws ++ words_text vs
 unfolding words_text
@@ -77,15 +77,15 @@ words_text_append (w ∷ ws) vs =
 one_more : (i : ℕ) (ws : List ℕ) → i < length ws → words_text (take (suc i) ws) ≡ words_text (take i ws) ++ (space ∷ hex_text (get_or ws i 0))
 unfolding words_text
 one_more i ws h =
-    ap words_text (take_suc ws i 0 h) ∙ words_text_append (take i ws) (get_or ws i 0 ∷ [])
-    ∙ ap (λ (xs : List ℕ). words_text (take i ws) ++ xs) (append_nil (space ∷ hex_text (get_or ws i 0)))
+    ap words_text (take-suc ws i 0 h) ∙ words_text_append (take i ws) (get_or ws i 0 ∷ [])
+    ∙ ap (λ (xs : List ℕ). words_text (take i ws) ++ xs) (append-nil (space ∷ hex_text (get_or ws i 0)))
 
 module _ (at i : ℕ) (ws out : List ℕ) (e₁ : ℕ) (out₁ : List ℕ) (here : i < length ws) (room : at + 17 * suc i ≤ length out)
     (p : Put at (words_text (take i ws)) out e₁ out₁) where
   so_far : (e₁ ≡ at + 17 * i) × (length out₁ ≡ length out)
   so_far =
       let l = words_text_length (take i ws) in
-      let k = length_take_le i ws (omega arith) in
+      let k = length-take-le i ws (omega arith) in
       (omega (arith, p.ends), put_length at (words_text (take i ws)) out e₁ out₁ p (omega arith))
 
   -- there is room for a space
@@ -121,8 +121,8 @@ line_put c v ws out e₁ e₂ e₃ out₁ out₂ out₃ h p q r =
     let k = words_text_length ws in
     let a = put_both 0 (two_text c v) (words_text ws) out e₁ e₂ out₁ out₂ p q (omega arith) in
     let b = put_both 0 (two_text c v ++ words_text ws) (newline ∷ []) out e₂ e₃ out₂ out₃ a r
-    (omega (arith, length_append (two_text c v) (words_text ws))) in
-    (b.ends ∙ zero_add _, b.bytes)
+    (omega (arith, length-append (two_text c v) (words_text ws))) in
+    (b.ends ∙ zero-add _, b.bytes)
 
 -- there is room for the words, and for the end of the line
 pub words_room : (c v k : ℕ) (out : List ℕ) (e₁ : ℕ) (out₁ : List ℕ) → 42 + 17 * k ≤ length out → Put 0 (two_text c v) out e₁ out₁

@@ -6,7 +6,7 @@ use native.Mathlib.Omega.{arith}
 use mathlib.Core.Path.{◌≡◌, sym, ap, ap₂, ◌∙◌}
 use mathlib.Core.List.{List, ◌++◌}
 use mathlib.Core.Option.{Option}
-use lib.ListN.{length, take, drop, length_drop, take_append_drop}
+use lib.ListN.{length, take, drop, length-drop, take-append-drop}
 use Rattle.model.specs.Pool as Pool
 use Rattle.model.specs.Pool.{Pool}
 use Rattle.model.proofs.Cases.{by_leb, by_ltb}
@@ -35,9 +35,9 @@ held_once t m p ws₁ ws₂ ws n₁ n₂ e h₁ h₂ d₁ d₂ =
     let front : take (extent_of n₁) ws₁ ≡ take (extent_of n₂) ws₂ =
     ap (λ (k : ℕ). take (extent_of k) ws₁) same ∙ one_layout (take (extent_of n₂) ws₁) (take (extent_of n₂) ws₂) n₂ p (rw same at a.1) b.1 in (
       same,
-      sym (take_append_drop (extent_of n₁) ws₁)
+      sym (take-append-drop (extent_of n₁) ws₁)
           ∙ ap₂ (λ (x y : List ℕ). x ++ y) front (d₁ ∙ ap (λ (k : ℕ). drop (extent_of k) ws) same ∙ sym d₂)
-          ∙ take_append_drop (extent_of n₂) ws₂,
+          ∙ take-append-drop (extent_of n₂) ws₂,
     )
 
 line_once : (w : Option Wanted) (s : State) (ws : List ℕ) (n : ℕ) (out : List ℕ) (n₁ e₁ : ℕ) (ws₁ out₁ : List ℕ) (n₂ e₂ : ℕ) (ws₂ out₂ : List ℕ)
@@ -71,7 +71,7 @@ alike_stable r q ws vs out bs h = record {
 
 -- a rest has one beginning
 one_place : (input : List ℕ) (i j : ℕ) → i ≤ length input → j ≤ length input → drop i input ≡ drop j input → i ≡ j
-one_place input i j h k e = omega (arith, length_drop i input, length_drop j input, ap length e)
+one_place input i j h k e = omega (arith, length-drop i input, length-drop j input, ap length e)
 
 pub played_once : (input : List ℕ) (at : ℕ) (ws : List ℕ) (n : ℕ) (out : List ℕ) (r q : Next) (ws₁ ws₂ out₁ out₂ : List ℕ) → length ws ≡ 6144
     → LinePlayed input at (desk ws n out) r ws₁ out₁ → LinePlayed input at (desk ws n out) q ws₂ out₂ → Alike r q ws₁ ws₂ out₁ out₂

@@ -3,10 +3,10 @@ use Prim.Native.Nat.{ℕ, zero, suc, ◌+◌, ◌≤◌, ◌<◌}
 use native.Mathlib.Omega.{arith}
 use mathlib.Core.Path.{◌≡◌, refl, sym, ap, ap₂, ◌∙◌}
 use mathlib.Core.Bool.{false}
-use mathlib.Core.List.{List, [], ◌∷◌, ◌++◌, append_nil}
+use mathlib.Core.List.{List, [], ◌∷◌, ◌++◌, append-nil}
 use mathlib.Core.Option.{Option}
-use lib.ListN.{length, take, drop, get_or, drop_of_length_le}
-use lib.Seq.{drop_cons, take_at}
+use lib.ListN.{length, take, drop, get_or, drop_of_length-le}
+use lib.Seq.{drop-cons, take_at}
 use Rattle.model.proofs.Cases.{by_leb}
 use Rattle.text.specs.Text.{lines}
 use Rattle.grammar.specs.Lines.{Wanted, wanted}
@@ -22,11 +22,11 @@ written : (ts out out' : List ℕ) (end : ℕ) → end ≡ length ts → out' �
 written ts out out' end e o = ap₂ take e (o ∙ over_first ts out) ∙ take_at ts (drop (length ts) out) (length ts) refl
 
 nothing_left : (input : List ℕ) (at : ℕ) → length input ≤ at → lines (drop at input) ≡ []
-nothing_left input at h = ap lines (drop_of_length_le input {i = at} h) ∙ no_lines
+nothing_left input at h = ap lines (drop_of_length-le input {i = at} h) ∙ no_lines
 
 lines_from : (input : List ℕ) (at : ℕ) → at < length input → lines (drop at input) ≡ first_line (drop at input) ∷ lines (after_line (drop at input))
 lines_from input at h =
-    let e = drop_cons input at 0 h in
+    let e = drop-cons input at 0 h in
     ap lines e ∙ lines_are (get_or input at 0) (drop (suc at) input) ∙ ap (λ (bs : List ℕ). first_line bs ∷ lines (after_line bs)) (sym e)
 
 -- what is held at a place of the input decides what the lines from there on say
@@ -67,7 +67,7 @@ long_from (suc k) input ws n printed h p =
     p.1.7
     ∙ ap₂ (λ (a b : List ℕ). a ++ b) (written too_long p.1.0 p.1.3 r.end (ap (λ r. r.end) l.0) l.2)
     (plays_end k input r.at p.1.2 r.nodes p.1.4 (omega (arith, at_end)) p.1.6)
-    ∙ append_nil too_long
+    ∙ append-nil too_long
 
 -- an input that is played from its beginning, before any pool, prints what it is to print
 pub plays_whole : (k : ℕ) (input ws : List ℕ) (n : ℕ) (printed : List ℕ) → sized n ≡ false → PlaysAll k input 0 ws n printed → printed ≡ prints input

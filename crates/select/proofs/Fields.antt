@@ -2,12 +2,12 @@
 -- the counts of fields into the counts of fields twice as wide. Proved over the number of fields; a word's width only says how many
 -- there are.
 use Prim.Native.Nat.{ℕ, zero, suc, ◌+◌, ◌-◌, ◌*◌, ◌/◌, ◌%◌, ◌^◌, ◌≤◌, ◌<◌}
-use native.Mathlib.Nat.{mod_lt, lt_of_lt_of_le, lt_of_le_of_lt, le_trans, le_of_eq, mul_zero, div_one}
+use native.Mathlib.Nat.{mod-lt, lt_of_lt_of_le, lt_of_le_of_lt, le_trans, le_of_eq, mul-zero, div-one}
 use native.Mathlib.Omega.{arith}
 use mathlib.Core.Path.{◌≡◌, refl, sym, ap, ◌∙◌}
 use lib.Arith.{digits_div, digits_mod}
 use lib.Bits.{bit_and, and_block, and_mask, and_zero_r}
-use lib.Pow.{pow_pos, pow_mono, split, shr_shr, mod_mod_pow, ones_lt}
+use lib.Pow.{pow_pos, pow_mono, split, shr-shr, mod-mod-pow, ones_lt}
 use Rattle.model.specs.Marks.{ones}
 use Rattle.model.specs.Word.{odd, bits}
 use Rattle.model.proofs.Counting.{ones_le, ones_append}
@@ -42,9 +42,9 @@ ones_bits_add j k w = rw bits_add (ones_append (bits j w) (bits k (w / 2 ^ j)))
 and_low : (d j n mask : ℕ) → bit_and n (mask * 2 ^ (d + j) + (2 ^ j - 1)) ≡ bit_and (n / 2 ^ (d + j)) mask * 2 ^ (d + j) + n % 2 ^ j
 and_low d j n mask =
     ap (λ (x : ℕ). bit_and x (mask * 2 ^ (d + j) + (2 ^ j - 1))) (sym (split n (d + j)))
-    ∙ and_block (d + j) (n / 2 ^ (d + j)) mask (n % 2 ^ (d + j)) (2 ^ j - 1) (mod_lt n (pow_pos (d + j)))
+    ∙ and_block (d + j) (n / 2 ^ (d + j)) mask (n % 2 ^ (d + j)) (2 ^ j - 1) (mod-lt n (pow_pos (d + j)))
     (lt_of_lt_of_le (ones_lt j) (pow_mono (omega arith)))
-    ∙ ap (λ (x : ℕ). bit_and (n / 2 ^ (d + j)) mask * 2 ^ (d + j) + x) (and_mask (n % 2 ^ (d + j)) j ∙ mod_mod_pow n d j)
+    ∙ ap (λ (x : ℕ). bit_and (n / 2 ^ (d + j)) mask * 2 ^ (d + j) + x) (and_mask (n % 2 ^ (d + j)) j ∙ mod-mod-pow n d j)
 
 -- ---- pairs: what the high bits of the pairs stand for is taken off once
 
@@ -88,7 +88,7 @@ halves_counted (suc m) w =
     and_low 2 2 (x / 4) mask ∙ ap (λ (n : ℕ). bit_and n mask * 16 + x / 4 % 4) next in
     let rest : bit_and a mask + bit_and (a / 4) mask ≡ field_counts 4 m (w / 16) = halves_counted m (w / 16) in
     let whole : ones (bits 4 w) ≡ ones (bits 2 w) + ones (bits 2 (w / 4)) = ones_bits_add 2 2 w in
-    rw (shr_shr w 2 2) (omega arith)
+    rw (shr-shr w 2 2) (omega arith)
 
 -- ---- bytes: the two halves of each, added and masked; a half's count is at most 4, so the sum has room in a half byte
 
@@ -113,7 +113,7 @@ bytes_counted (suc m) w =
     and_low 4 4 (x + x / 16) mask ∙ ap (λ (n : ℕ). bit_and n mask * 256 + (x + x / 16) % 16) high in
     let rest : bit_and (a + a / 16) mask ≡ field_counts 8 m (w / 256) = bytes_counted m (w / 256) in
     let whole : ones (bits 8 w) ≡ ones (bits 4 w) + ones (bits 4 (w / 16)) = ones_bits_add 4 4 w in
-    rw (shr_shr w 4 4) (omega arith)
+    rw (shr-shr w 4 4) (omega arith)
 
 -- ---- what stands in a field
 
@@ -129,7 +129,7 @@ field_fits k w = lt_of_le_of_lt (ones_bits_le k w) (lt_pow k)
 pub field_of_counts : (k m w j : ℕ) → j < m → field_counts k m w / 2 ^ (k * j) % 2 ^ k ≡ ones (bits k (w / 2 ^ (k * j)))
 unfolding field_counts
 field_of_counts k zero w j h = absurd (omega arith)
-field_of_counts k (suc m) w zero h = simp (mul_zero, div_one) (digits_mod (field_counts k m (w / 2 ^ k)) (field_fits k w))
+field_of_counts k (suc m) w zero h = simp (mul-zero, div-one) (digits_mod (field_counts k m (w / 2 ^ k)) (field_fits k w))
 field_of_counts k (suc m) w (suc j) h =
     let up : k * suc j ≡ k + k * j = omega arith in
-    rw (up, ← shr_shr w k (k * j), ← shr_shr _ k (k * j), digits_div _ (field_fits k w)) (field_of_counts k m (w / 2 ^ k) j (omega arith))
+    rw (up, ← shr-shr w k (k * j), ← shr-shr _ k (k * j), digits_div _ (field_fits k w)) (field_of_counts k m (w / 2 ^ k) j (omega arith))

@@ -1,7 +1,7 @@
 -- How the search for the k-th set bit narrows: of two neighbouring runs of bits it is in the first where that has enough set ones, else in the
 -- second. At a run of one bit it has found it. One law serves the bytes, the half byte, the pair and the bit.
 use Prim.Native.Nat.{ℕ, zero, suc, ◌+◌, ◌-◌, ◌*◌, ◌/◌, ◌^◌, ◌≤◌, ◌<◌}
-use native.Mathlib.Nat.{div_one, add_zero}
+use native.Mathlib.Nat.{div-one, add-zero}
 use native.Mathlib.Omega.{arith}
 use mathlib.Core.Path.{◌≡◌, refl, sym, ap, ◌∙◌}
 use mathlib.Core.Bool.{Bool, true, false}
@@ -9,7 +9,7 @@ use mathlib.Core.List.{[], ◌∷◌}
 use mathlib.Core.Option.{some}
 use lib.Bits.{bit_and, and_mask}
 use lib.ListN.{length}
-use lib.Pow.{shr_shr}
+use lib.Pow.{shr-shr}
 use Rattle.model.specs.Marks.{ones, place, further}
 use Rattle.model.specs.Word.{odd, bits, digit}
 use Rattle.model.proofs.Counting.{place_in_first, place_in_second, further_zero, further_further}
@@ -24,8 +24,8 @@ pub begin : (w k : ℕ) → 1 ≤ k → k ≤ ones (bits 64 w) → Search w k 64
 begin w k h l = record {
   inside = omega arith;
   one = h;
-  enough = rw div_one l;
-  same = rw div_one (sym (further_zero (place k (bits 64 w))));
+  enough = rw div-one l;
+  same = rw div-one (sym (further_zero (place k (bits 64 w))));
 }
 
 module _ {w k : ℕ} (m n : ℕ) {r : Reached} (s : Search w k (m + n) r) where
@@ -44,8 +44,8 @@ module _ {w k : ℕ} (m n : ℕ) {r : Reached} (s : Search w k (m + n) r) where
   pass h = record {
     inside = omega arith;
     one = omega arith;
-    enough = rw (← shr_shr w r.pos m) (omega (arith, ones_bits_add m n (w / 2 ^ r.pos)));
-    same = s.same ∙ rw (bits_add, ← shr_shr w r.pos m)
+    enough = rw (← shr-shr w r.pos m) (omega (arith, ones_bits_add m n (w / 2 ^ r.pos)));
+    same = s.same ∙ rw (bits_add, ← shr-shr w r.pos m)
         (ap (further r.pos) (place_in_second r.left (bits m (w / 2 ^ r.pos)) (bits n (w / 2 ^ r.pos / 2 ^ m)) h)
         ∙ further_further r.pos (length (bits m (w / 2 ^ r.pos))) _ ∙ rw bits_length);
   }
@@ -60,7 +60,7 @@ only false left h l = absurd (omega arith)
 -- at one bit it has come to the place
 pub found : {w k : ℕ} {r : Reached} → Search w k 1 r → place k (bits 64 w) ≡ some r.pos
 unfolding bits further
-found {w} {k} {r} s = s.same ∙ rw (only (odd (w / 2 ^ r.pos)) r.left s.one s.enough) (ap some (add_zero r.pos))
+found {w} {k} {r} s = s.same ∙ rw (only (odd (w / 2 ^ r.pos)) r.left s.one s.enough) (ap some (add-zero r.pos))
 
 -- ---- fields
 
@@ -87,7 +87,7 @@ held_below {w} n m {r} f h = held n m w r.pos (2 * f.begins.0) (omega arith) h
 -- a bit counts itself
 pub held_bit : (x : ℕ) → bit_and x 1 ≡ ones (bits 1 x)
 unfolding bits ones
-held_bit x = and_mask x 1 ∙ sym (digit_odd x) ∙ sym (ones_cons (odd x) [] ∙ add_zero (digit (odd x)))
+held_bit x = and_mask x 1 ∙ sym (digit_odd x) ∙ sym (ones_cons (odd x) [] ∙ add-zero (digit (odd x)))
 
 -- ---- bytes
 

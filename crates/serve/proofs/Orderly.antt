@@ -9,7 +9,7 @@ use mathlib.Core.Option.{Option, none, some}
 use lib.Dec.{leb, ltb}
 use lib.ListN.{length}
 use mir.Val.{bool_byte}
-use borrow.Author.Tests.{lt_ltb, le_ltb, le_leb, lt_leb}
+use borrow.Author.Tests.{lt-ltb, le-ltb, le-leb, lt-leb}
 use Rattle.model.specs.Edit as Edit
 use Rattle.model.specs.Marks as Marks
 use Rattle.model.specs.Pool as Pool
@@ -40,16 +40,16 @@ never {b = b} t f = let e : ◌≡◌ {A = Bool} true false = sym t ∙ f in let
 
 module _ (i : ℕ) (t : Tree) where
   within : i ≤ size t → leb i (length (marks t)) ≡ true
-  within h = le_leb i (length (marks t)) (rw (← size_marks t) h)
+  within h = le-leb i (length (marks t)) (rw (← size_marks t) h)
 
   past : size t < i → leb i (length (marks t)) ≡ false
-  past h = lt_leb i (length (marks t)) (rw (← size_marks t) h)
+  past h = lt-leb i (length (marks t)) (rw (← size_marks t) h)
 
   below : i < size t → ltb i (length (marks t)) ≡ true
-  below h = lt_ltb i (length (marks t)) (rw (← size_marks t) h)
+  below h = lt-ltb i (length (marks t)) (rw (← size_marks t) h)
 
   above : size t ≤ i → ltb i (length (marks t)) ≡ false
-  above h = le_ltb i (length (marks t)) (rw (← size_marks t) h)
+  above h = le-ltb i (length (marks t)) (rw (← size_marks t) h)
 
 -- ---- insert
 

@@ -7,7 +7,7 @@ use mathlib.Core.Path.{◌≡◌, refl, sym, ap, ◌∙◌}
 use mathlib.Core.Bool.{Bool, true, false}
 use mathlib.Core.List.Memᴰ
 use mathlib.Core.List.{List, [], ◌++◌}
-use borrow.Author.Tests.{lt_ltb, le_ltb}
+use borrow.Author.Tests.{lt-ltb, le-ltb}
 use lib.IntN.{ℤ, pos}
 use lib.ListN.{length}
 use mir.Syntax.{w64}
@@ -93,8 +93,8 @@ leads : {f : Fork} {total i : ℕ} {s : Step} (n : ℕ) (l r : Tree) → f ≡ f
 unfolding fork_of remove marks
 leads {i = i} n l r e toward =
     by_step n l r e toward (λ (s : Step). Leads s n i l r)
-    (λ k. record { mark_same = access_left l r i k; removes = rw (remove, lt_ltb i (size l) k) })
-    (λ k. record { mark_same = access_right l r i k; removes = rw (remove, le_ltb i (size l) k) })
+    (λ k. record { mark_same = access_left l r i k; removes = rw (remove, lt-ltb i (size l) k) })
+    (λ k. record { mark_same = access_right l r i k; removes = rw (remove, le-ltb i (size l) k) })
 
 -- the fork with one mark less says all of the trees afterwards but how they lean
 discounted : (left : Bool) (f : Fork) (i : ℕ) (b : Bool) (l r : Tree) → f ≡ fork_of l r → i < size (side left l r)

@@ -5,7 +5,7 @@ use native.Mathlib.Omega.{arith}
 use mathlib.Core.Path.{◌≡◌, refl, sym, ap, ◌∙◌}
 use mathlib.Core.Bool.{Bool, true, false}
 use mathlib.Core.List.{List, [], ◌∷◌, ◌++◌}
-use lib.ListN.{length, length_append}
+use lib.ListN.{length, length-append}
 use mir.Val.{bool_byte}
 use Rattle.model.specs.Edit.{put_before, put_after, drop_first, drop_last, first_mark, last_mark}
 use Rattle.model.specs.Marks.{count, ones, wanted}
@@ -189,7 +189,7 @@ merge_done {n = n} {left = left} b e z =
 module _ (t : Tree) (b : Bool) where
   after_size : size t + 1 ≡ size (put_after (b ∷ []) t)
   after_size =
-      omega (arith, size_marks t, size_marks (put_after (b ∷ []) t), ap length (put_after_marks (b ∷ []) t), length_append (marks t) (b ∷ []))
+      omega (arith, size_marks t, size_marks (put_after (b ∷ []) t), ap length (put_after_marks (b ∷ []) t), length-append (marks t) (b ∷ []))
 
   after_count : count true (marks t) + digit b ≡ count true (marks (put_after (b ∷ []) t))
   after_count = omega (arith, ap (count true) (put_after_marks (b ∷ []) t), count_append true (marks t) (b ∷ []), count_one b)
@@ -200,7 +200,7 @@ module _ (t : Tree) (b : Bool) (e : last_mark t ≡ b ∷ []) where
   parts = rw e at (drop_last_marks t)
 
   drop_last_size : size t ≡ suc (size (drop_last t))
-  drop_last_size = omega (arith, size_marks t, size_marks (drop_last t), ap length parts, length_append (marks (drop_last t)) (b ∷ []))
+  drop_last_size = omega (arith, size_marks t, size_marks (drop_last t), ap length parts, length-append (marks (drop_last t)) (b ∷ []))
 
   drop_last_count : count true (marks t) ≡ count true (marks (drop_last t)) + digit b
   drop_last_count = omega (arith, ap (count true) parts, count_append true (marks (drop_last t)) (b ∷ []), count_one b)

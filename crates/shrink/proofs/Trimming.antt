@@ -6,8 +6,8 @@ use mathlib.Core.Path.{◌≡◌, refl, sym, ap}
 use mathlib.Core.Bool.{Bool, true, false}
 use mathlib.Core.List.Memᴰ
 use mathlib.Core.List.{List, [], ◌∷◌, ◌++◌, Memᴰ}
-use lib.ListN.{length, take, drop, get_or, take_append_drop}
-use lib.Seq.{drop_cons}
+use lib.ListN.{length, take, drop, get_or, take-append-drop}
+use lib.Seq.{drop-cons}
 use Rattle.model.specs.Edit.{Trimmed, put_before, put_after, drop_first, drop_last, first_mark, last_mark, mend_left, mend_right, remove}
 use Rattle.model.specs.Marks as Marks
 use Rattle.model.specs.Marks.{access, count}
@@ -56,9 +56,9 @@ count_remove i xs h =
     let x : Bool = get_or xs i false in
     omega (
       arith,
-      ap (count true) (sym (take_append_drop i xs)),
+      ap (count true) (sym (take-append-drop i xs)),
       count_append true (take i xs) (drop i xs),
-      ap (count true) (drop_cons xs i false h),
+      ap (count true) (drop-cons xs i false h),
       count_cons x (drop (suc i) xs),
       count_append true (take i xs) (drop (suc i) xs),
     )

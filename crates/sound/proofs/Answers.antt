@@ -3,7 +3,7 @@ use Prim.Native.Nat.{ℕ, ◌≤◌}
 use native.Mathlib.Omega.{arith}
 use mathlib.Core.Path.{◌≡◌, refl}
 use mathlib.Core.Bool.{Bool, true, false}
-use borrow.Author.Tests.{eqb_true, eq_eqb, leb_true, le_leb}
+use borrow.Author.Tests.{eqb-true, eq-eqb, leb-true, le-leb}
 use lib.Dec.{eqb, leb}
 use Rattle.bits.specs.declared.leaf.Leaf.{Leaf}
 use Rattle.pool.specs.declared.node.Fork.{Fork}
@@ -21,10 +21,10 @@ module _ {P : Type 0} where
 
   -- two numbers are compared
   pub says_same : (m n : ℕ) → (m ≡ n → P) → (P → m ≡ n) → Says P (eqb m n)
-  says_same m n p q = record { yes = λ e. p (eqb_true m n e); no = λ h. eq_eqb m n (q h) }
+  says_same m n p q = record { yes = λ e. p (eqb-true m n e); no = λ h. eq-eqb m n (q h) }
 
   pub says_most : (m n : ℕ) → (m ≤ n → P) → (P → m ≤ n) → Says P (leb m n)
-  says_most m n p q = record { yes = λ e. p (leb_true m n e); no = λ h. le_leb m n (q h) }
+  says_most m n p q = record { yes = λ e. p (leb-true m n e); no = λ h. le-leb m n (q h) }
 
 -- ---- no node is of two kinds
 

@@ -1,18 +1,18 @@
 -- The bits of the nodes that have been met. Nodes met one after the other: what was fresh and has been marked was fresh together.
 use Prim.Native.Nat.{ℕ, suc, ◌+◌, ◌-◌, ◌*◌, ◌/◌, ◌%◌, ◌^◌, ◌≤◌, ◌<◌, max}
-use native.Mathlib.Nat.{div_self, div_eq_of_lt, pow_suc}
+use native.Mathlib.Nat.{div_self, div-eq_of_lt, pow-suc}
 use native.Mathlib.Omega.{arith}
 use mathlib.Core.Path.{◌≡◌, refl, sym, ap, ◌∙◌}
 use mathlib.Core.Bool.{true, false}
 use mathlib.Core.List.Memᴰ
 use mathlib.Core.List.{List, ◌++◌}
 use mathlib.Core.Logic.{◌⊎◌, inl, inr, ⊎_elim}
-use borrow.Author.Tests.{eqb_true, eqb_false, eq_eqb}
+use borrow.Author.Tests.{eqb-true, eqb-false, eq-eqb}
 use lib.Bits.{bit_or, or_step, or_shr}
 use lib.Dec.{eqb}
-use lib.ListN.{length, get_or, set, length_set}
-use lib.Pow.{pow_pos, pow_add, pow_lt, shl_shr}
-use lib.Seq.{get_or_set_same, get_or_set_other}
+use lib.ListN.{length, get_or, set, length-set}
+use lib.Pow.{pow_pos, pow-add, pow-lt, shl-shr}
+use lib.Seq.{get_or-set_same, get_or-set_other}
 use Rattle.model.specs.Word.{odd}
 use Rattle.model.proofs.Cases.{by_test, by_ltb}
 use Rattle.sound.specs.Met.{met_at, Fresh, Marked, Meets}
@@ -63,17 +63,17 @@ module _ {met met₁ : List ℕ} (ms ns : List ℕ) where
 
 odd_is : (x : ℕ) → x % 2 ≡ 1 → odd x ≡ true
 unfolding odd
-odd_is x e = eq_eqb (x % 2) 1 e
+odd_is x e = eq-eqb (x % 2) 1 e
 
 odd_says : (x : ℕ) → odd x ≡ true → x % 2 ≡ 1
 unfolding odd
-odd_says x e = eqb_true (x % 2) 1 e
+odd_says x e = eqb-true (x % 2) 1 e
 
 even_is : (x : ℕ) → x % 2 ≡ 0 → odd x ≡ false
 even_is x e = by_test (odd x) (λ h. absurd (omega (arith, odd_says x h))) (λ h. h)
 
 even_says : (x : ℕ) → odd x ≡ false → x % 2 ≡ 0
-even_says x e = by_test (eqb (x % 2) 1) (λ h. never (odd_is x (eqb_true (x % 2) 1 h)) e) (λ h. omega (arith, eqb_false (x % 2) 1 h))
+even_says x e = by_test (eqb (x % 2) 1) (λ h. never (odd_is x (eqb-true (x % 2) 1 h)) e) (λ h. omega (arith, eqb-false (x % 2) 1 h))
 
 -- the bits of an or
 or_bit : (a b j : ℕ) → bit_or a b / 2 ^ j % 2 ≡ max (a / 2 ^ j % 2) (b / 2 ^ j % 2)
@@ -90,9 +90,9 @@ power_other j b ne =
     let m : ℕ = b - suc j in
     let e : b ≡ suc m + j = omega arith in
     let quotient : 2 ^ b / 2 ^ j ≡ 2 ^ m * 2 =
-    ap (λ (x : ℕ). 2 ^ x / 2 ^ j) e ∙ ap (λ (x : ℕ). x / 2 ^ j) (pow_add 2 (suc m) j) ∙ shl_shr (2 ^ suc m) j ∙ pow_suc 2 m in
+    ap (λ (x : ℕ). 2 ^ x / 2 ^ j) e ∙ ap (λ (x : ℕ). x / 2 ^ j) (pow-add 2 (suc m) j) ∙ shl-shr (2 ^ suc m) j ∙ pow-suc 2 m in
     omega arith)
-    (λ _ h. ap (λ (x : ℕ). x % 2) (div_eq_of_lt (pow_lt {j = j} (omega arith))))
+    (λ _ h. ap (λ (x : ℕ). x % 2) (div-eq_of_lt (pow-lt {j = j} (omega arith))))
 
 -- ---- marking a node
 
@@ -108,7 +108,7 @@ module _ (met : List ℕ) (n : ℕ) (here : n / 64 < length met) where
   same_word : (k : ℕ) → k / 64 ≡ n / 64 → met_at marked k ≡ odd (bit_or word (2 ^ (n % 64)) / 2 ^ (k % 64))
   unfolding met_at
   same_word k e = ap (λ (x : ℕ). odd (x / 2 ^ (k % 64)))
-      (ap (λ (x : ℕ). get_or marked x 0) e ∙ get_or_set_same met (n / 64) (bit_or word (2 ^ (n % 64))) 0 here)
+      (ap (λ (x : ℕ). get_or marked x 0) e ∙ get_or-set_same met (n / 64) (bit_or word (2 ^ (n % 64))) 0 here)
 
   met_word : (k : ℕ) → k / 64 ≡ n / 64 → met_at met k ≡ odd (word / 2 ^ (k % 64))
   unfolding met_at
@@ -116,10 +116,10 @@ module _ (met : List ℕ) (n : ℕ) (here : n / 64 < length met) where
 
   other_word : (k : ℕ) → (k / 64 ≡ n / 64 → ⊥) → met_at marked k ≡ met_at met k
   unfolding met_at
-  other_word k ne = ap (λ (x : ℕ). odd (x / 2 ^ (k % 64))) (get_or_set_other met (n / 64) (k / 64) (bit_or word (2 ^ (n % 64))) 0 ne)
+  other_word k ne = ap (λ (x : ℕ). odd (x / 2 ^ (k % 64))) (get_or-set_other met (n / 64) (k / 64) (bit_or word (2 ^ (n % 64))) 0 ne)
 
   by_word : {P : Type 0} (k : ℕ) → (k / 64 ≡ n / 64 → P) → ((k / 64 ≡ n / 64 → ⊥) → P) → P
-  by_word k p q = by_test (eqb (k / 64) (n / 64)) (λ e. p (eqb_true (k / 64) (n / 64) e)) (λ e. q (eqb_false (k / 64) (n / 64) e))
+  by_word k p q = by_test (eqb (k / 64) (n / 64)) (λ e. p (eqb-true (k / 64) (n / 64) e)) (λ e. q (eqb-false (k / 64) (n / 64) e))
 
   mark_here : met_at marked n ≡ true
   mark_here = same_word n refl ∙ odd_is _ (or_bit word (2 ^ (n % 64)) (n % 64) ∙ rw (power_same (n % 64)) (omega arith))
@@ -137,9 +137,9 @@ module _ (met : List ℕ) (n : ℕ) (here : n / 64 < length met) where
   mark_only k e =
       by_word k
       (λ same. by_test (eqb (k % 64) (n % 64))
-      (λ t. let bit : k % 64 ≡ n % 64 = eqb_true (k % 64) (n % 64) t in inl (omega arith))
+      (λ t. let bit : k % 64 ≡ n % 64 = eqb-true (k % 64) (n % 64) t in inl (omega arith))
       (λ t.
-      let none = power_other (k % 64) (n % 64) (eqb_false (k % 64) (n % 64) t) in
+      let none = power_other (k % 64) (n % 64) (eqb-false (k % 64) (n % 64) t) in
       let is : bit_or word (2 ^ (n % 64)) / 2 ^ (k % 64) % 2 ≡ 1 = odd_says _ (sym (same_word k same) ∙ e) in
       let or = or_bit word (2 ^ (n % 64)) (k % 64) in
       let was : word / 2 ^ (k % 64) % 2 ≡ 1 = omega arith in
@@ -159,7 +159,7 @@ module _ (met : List ℕ) (n : ℕ) (here : n / 64 < length met) where
             unmet = λ k h. rw (Memᴰ.eq_of_singleton h) (met_word n refl ∙ even_is _ clear);
           },
           record {
-            size = length_set met (n / 64) (bit_or word (2 ^ (n % 64)));
+            size = length-set met (n / 64) (bit_or word (2 ^ (n % 64)));
             here = λ k h. rw (Memᴰ.eq_of_singleton h) mark_here;
             kept = mark_kept;
             only = λ k e. ⊎_elim (λ same. inl (Memᴰ.head same)) inr (mark_only k e);

@@ -5,7 +5,7 @@ use native.Mathlib.Omega.{arith}
 use mathlib.Core.Path.{◌≡◌}
 use mathlib.Core.Bool.{Bool, true}
 use mathlib.Core.List.{List}
-use lib.ListN.{length, take, length_take}
+use lib.ListN.{length, take, length-take}
 use Rattle.model.specs.Marks.{count, rank, wanted}
 use Rattle.model.specs.Tree.{Tree}
 use Rattle.model.proofs.Counting.{ones_le}
@@ -22,7 +22,7 @@ use Rattle.sound.proofs.Parts.{by_forked, part_broken, part_free, part_leaf}
 -- no more bits are set before a place than there are
 pub rank_most : (r n : ℕ) (xs : List Bool) → r ≡ rank true n xs → r ≤ n
 unfolding rank count wanted
-rank_most r n xs e = omega (arith, ones_le (take n xs), length_take n xs)
+rank_most r n xs e = omega (arith, ones_le (take n xs), length-take n xs)
 
 -- what is left of a tree from the node reached on
 pub record Rest (w : List ℕ) (least n total ones left strikes depth : ℕ) : Type 0 where

@@ -4,8 +4,8 @@ use native.Mathlib.Omega.{arith}
 use mathlib.Core.Path.{◌≡◌, refl, sym, ap, ap₂, ◌∙◌}
 use mathlib.Core.Bool.{Bool, true, false}
 use mathlib.Core.List.{List, ◌++◌}
-use lib.ListN.{length, take, replicate, length_append, replicate_append_replicate}
-use lib.Seq.{take_all, take_append_seam, length_take_le}
+use lib.ListN.{length, take, replicate, length-append, replicate-append-replicate}
+use lib.Seq.{take_all, take-append_seam, length-take-le}
 use Rattle.model.specs.Marks.{ones, wanted, count, rank}
 use Rattle.model.specs.Word.{bits}
 use Rattle.model.proofs.Counting.{ones_append}
@@ -23,7 +23,7 @@ ones_quiet (suc n) = ones_quiet n
 
 leaf_length : (x : Leaf) → length (bits_of x) ≡ 128
 unfolding bits_of
-leaf_length x = length_append (bits 64 x.low) (bits 64 x.high) ∙ ap₂ (λ (a b : ℕ). a + b) (bits_length 64 x.low) (bits_length 64 x.high)
+leaf_length x = length-append (bits 64 x.low) (bits 64 x.high) ∙ ap₂ (λ (a b : ℕ). a + b) (bits_length 64 x.low) (bits_length 64 x.high)
 
 module _ (x : Leaf) (n : ℕ) where
   rank_whole : rank true 128 (bits_of x) ≡ ones (bits_of x)
@@ -34,7 +34,7 @@ module _ (x : Leaf) (n : ℕ) where
   cut_held : leaf_of (held x n ++ bits_of (record { low = 0; high = 0 })) ≡ leaf_of (held x n)
   unfolding bits_of
   cut_held = ap (λ (ys : List Bool). leaf_of (held x n ++ ys)) (ap₂ (λ (xs ys : List Bool). xs ++ ys) (bits_zero 64) (bits_zero 64)
-      ∙ replicate_append_replicate 64 64 false) ∙ leaf_padded 128 (held x n)
+      ∙ replicate-append-replicate 64 64 false) ∙ leaf_padded 128 (held x n)
 
   module _ (cut : Leaf) (e : cut ≡ leaf_of (held x n ++ bits_of (record { low = 0; high = 0 }))) where
     -- it is the same leaf exactly where there was nothing to cut
@@ -48,7 +48,7 @@ module _ (x : Leaf) (n : ℕ) where
   pub held_ends : n ≤ 128 → x ≡ leaf_of (held x n) → count true (held x n) ≡ rank true 128 (bits_of x)
   unfolding count wanted
   held_ends h e =
-      let size : length (held x n) ≡ n = length_take_le n (bits_of x) (omega (arith, leaf_length x)) in
+      let size : length (held x n) ≡ n = length-take-le n (bits_of x) (omega (arith, leaf_length x)) in
       let zeros : bits_of x ≡ held x n ++ replicate (128 - length (held x n)) false = ap bits_of e ∙ held_bits (held x n) (omega arith) in
       let all : ones (bits_of x) ≡ ones (held x n) + ones (replicate (128 - length (held x n)) false) =
       ap ones zeros ∙ ones_append (held x n) (replicate (128 - length (held x n)) false) in
@@ -56,7 +56,7 @@ module _ (x : Leaf) (n : ℕ) where
 
 -- the marks of a leaf that holds them
 pub held_of : (xs : List Bool) → length xs ≤ 128 → held (leaf_of xs) (length xs) ≡ xs
-held_of xs h = ap (take (length xs)) (held_bits xs h) ∙ take_append_seam xs (replicate (128 - length xs) false)
+held_of xs h = ap (take (length xs)) (held_bits xs h) ∙ take-append_seam xs (replicate (128 - length xs) false)
 
 pub held_length : (x : Leaf) (n : ℕ) → n ≤ 128 → length (held x n) ≡ n
-held_length x n h = length_take_le n (bits_of x) (omega (arith, leaf_length x))
+held_length x n h = length-take-le n (bits_of x) (omega (arith, leaf_length x))

@@ -5,7 +5,7 @@ use native.Mathlib.Omega.{arith}
 use mathlib.Core.Path.{◌≡◌, refl, sym, ap, ◌∙◌}
 use mathlib.Core.Bool.{Bool, true, false}
 use mathlib.Core.List.{List, [], ◌∷◌, ◌++◌}
-use lib.ListN.{length, length_append}
+use lib.ListN.{length, length-append}
 use Rattle.model.specs.Marks.{count}
 use Rattle.model.specs.Edit.{leaf_least}
 use Rattle.model.specs.Tree as Tree
@@ -219,7 +219,7 @@ module _ {w : List ℕ} {least n total strikes levels : ℕ} where
 
 fork_nodes : (m : ℕ) (l r : Tree) → length (numbers (Tree.fork m l r)) ≡ length (numbers l) + length (numbers r) + 1
 unfolding numbers
-fork_nodes m l r = omega (arith, length_append (numbers l) (numbers r))
+fork_nodes m l r = omega (arith, length-append (numbers l) (numbers r))
 
 module _ {met met₁ : List ℕ} {n : ℕ} (m : ℕ) (l r : Tree) (e : m ≡ n) (m₁ : Marked met met₁ (n ∷ [])) where
   -- what is fresh after the fork itself is met, and what has been met in the end

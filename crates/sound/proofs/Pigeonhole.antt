@@ -1,14 +1,14 @@
 -- Numbers below n of which none stands twice can be made up to all the numbers below n. So n of them are all.
 use Prim.Native.Nat.{ℕ, zero, suc, ◌+◌, ◌<◌}
-use native.Mathlib.Numerals.{add_one}
+use native.Mathlib.Numerals.{add-one}
 use native.Mathlib.Omega.{arith}
 use mathlib.Core.Path.{◌≡◌, refl, sym, ap, ◌∙◌}
 use mathlib.Core.List.Memᴰ
 use mathlib.Core.List.{List, [], ◌∷◌, ◌++◌, Memᴰ}
 use mathlib.Core.Logic.{◌⊎◌, inl, inr, ⊎_elim}
-use borrow.Author.Tests.{eqb_true, eqb_false}
+use borrow.Author.Tests.{eqb-true, eqb-false}
 use lib.Dec.{eqb}
-use lib.ListN.{length, length_append}
+use lib.ListN.{length, length-append}
 use Rattle.model.specs.Pool.{numbers_from}
 use Rattle.model.specs.Sound.{Distinct, Rearranged, weigh}
 use Rattle.model.proofs.Cases.{by_test}
@@ -19,8 +19,8 @@ member_or_not : (k : ℕ) (ns : List ℕ) → Memᴰ k ns ⊎ (Memᴰ k ns → �
 member_or_not k [] = inr Memᴰ.not_nil
 member_or_not k (n ∷ ns) =
     by_test (eqb k n)
-    (λ e. inl (Memᴰ.head (eqb_true k n e)))
-    (λ e. ⊎_elim (λ h. inl (Memᴰ.tail h)) (λ out. inr (λ h. ⊎_elim (eqb_false k n e) out (Memᴰ.cases_cons h))) (member_or_not k ns))
+    (λ e. inl (Memᴰ.head (eqb-true k n e)))
+    (λ e. ⊎_elim (λ h. inl (Memᴰ.tail h)) (λ out. inr (λ h. ⊎_elim (eqb-false k n e) out (Memᴰ.cases_cons h))) (member_or_not k ns))
 
 -- ---- a list without one of its numbers
 
@@ -58,7 +58,7 @@ numbers_last : (w : ℕ → ℕ) (n : ℕ) → weigh w (numbers_from 0 (suc n)) 
 unfolding weigh numbers_from
 numbers_last w n =
     let e : 0 + n ≡ n = omega arith in
-    ap (λ (m : ℕ). weigh w (numbers_from 0 m)) (sym (add_one n)) ∙ numbers_more w 0 n 1 ∙ ap (λ (m : ℕ). weigh w (numbers_from 0 n) + (w m + 0)) e
+    ap (λ (m : ℕ). weigh w (numbers_from 0 m)) (sym (add-one n)) ∙ numbers_more w 0 n 1 ∙ ap (λ (m : ℕ). weigh w (numbers_from 0 n) + (w m + 0)) e
     ∙ omega arith
 
 abbrev Completed : ℕ → List ℕ → Type 0
@@ -81,12 +81,12 @@ completed (suc n) ks d low =
     (member_or_not n ks)
   where
     other : (k : ℕ) → k < suc n → (k ≡ n → ⊥) → k < n
-    other k l ne = by_test (eqb k n) (λ e. absurd (ne (eqb_true k n e))) (λ e. omega (arith, eqb_false k n e))
+    other k l ne = by_test (eqb k n) (λ e. absurd (ne (eqb-true k n e))) (λ e. omega (arith, eqb-false k n e))
 
 made_up : (n : ℕ) (ks : List ℕ) (c : Completed n ks) → n ≡ length ks + length c.0
 made_up n ks c =
     sym (numbers_from_length 0 n) ∙ rearranged_length (numbers_from 0 n) (ks ++ c.0) (λ w. c.1 w ∙ sym (weigh_append w ks c.0))
-    ∙ length_append ks c.0
+    ∙ length-append ks c.0
 
 rest_none : (n : ℕ) (ks rest : List ℕ) → length rest ≡ 0 → ((w : ℕ → ℕ) → weigh w (numbers_from 0 n) ≡ weigh w ks + weigh w rest)
     → Rearranged (numbers_from 0 n) ks

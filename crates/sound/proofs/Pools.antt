@@ -1,14 +1,14 @@
 -- From a tree and a chain to a pool and back. A sound pool's numbers are all the numbers of its nodes, each once; and a tree that has no node twice
 -- and a chain that ends have, where they have as many nodes as there are, all of them.
 use Prim.Native.Nat.{ℕ, zero, suc, ◌+◌, ◌-◌, ◌*◌, ◌/◌, ◌%◌, ◌^◌, ◌≤◌, ◌<◌, min}
-use native.Mathlib.Nat.{zero_div}
+use native.Mathlib.Nat.{zero-div}
 use native.Mathlib.Omega.{arith}
 use mathlib.Core.Path.{◌≡◌, refl, sym, ap, ◌∙◌}
 use mathlib.Core.Bool.{Bool, true, false}
 use mathlib.Core.List.Memᴰ
 use mathlib.Core.List.{List, [], ◌∷◌, ◌++◌, Memᴰ}
 use mathlib.Core.Logic.{⊎_elim}
-use lib.ListN.{length, get_or, replicate, length_append}
+use lib.ListN.{length, get_or, replicate, length-append}
 use Rattle.model.specs.Pool.{Pool, numbers_from}
 use Rattle.model.specs.Marks.{count}
 use Rattle.model.specs.Sound.{Distinct, Sized, Whole, all_numbers}
@@ -46,7 +46,7 @@ zeros (suc n) (suc j) = zeros n j
 
 unmet : (n k : ℕ) → met_at (replicate n 0) k ≡ false
 unfolding met_at odd
-unmet n k = rw (met_at, zeros n (k / 64), zero_div (2 ^ (k % 64)))
+unmet n k = rw (met_at, zeros n (k / 64), zero-div (2 ^ (k % 64)))
 
 -- ---- the nodes that stand in words have numbers
 
@@ -151,7 +151,7 @@ module _ {w : List ℕ} {root total : ℕ} {chain : Chain} (most : nodes_in w �
         arith,
         rearranged_length (numbers_from 0 (nodes_in w)) all h.sound.each,
         numbers_from_length 0 (nodes_in w),
-        length_append
+        length-append
             (numbers p.tree) p.free,
         h.amount,
       )
@@ -203,7 +203,7 @@ module _ {w : List ℕ} {root total : ℕ} {chain : Chain} {r : ℕ} (s : Seen w
       let k = l.1 in
       let apart : Distinct (numbers t ++ ks) = distinct_join (numbers t) ks v.1.fresh.distinct (chain_distinct w ks k.chained)
       (λ i m n. let f = chain_free w (nodes_in w) ks k.chained i n in tree_taken w t part.holds i m f.0 f.1) in
-      let amount : length (numbers t ++ ks) ≡ nodes_in w = omega (arith, length_append (numbers t) ks, v.1.rest, k.counts, s.fits) in
+      let amount : length (numbers t ++ ks) ≡ nodes_in w = omega (arith, length-append (numbers t) ks, v.1.rest, k.counts, s.fits) in
       let below : (i : ℕ) → Memᴰ i (numbers t ++ ks) → i < nodes_in w =
       λ i m. ⊎_elim (tree_below w t part.holds i) (chain_below w (nodes_in w) ks k.chained i) (Memᴰ.append_cases (numbers t) m) in (
         record { tree = t; free = ks },

@@ -3,9 +3,9 @@ use Prim.Native.Nat.{ℕ, suc, ◌+◌, ◌-◌, ◌≤◌, ◌<◌}
 use native.Mathlib.Omega.{arith}
 use mathlib.Core.Path.{◌≡◌, refl, sym, ap, ap₂, ◌∙◌}
 use mathlib.Core.Bool.{Bool, true, false}
-use mathlib.Core.List.{List, [], ◌∷◌, ◌++◌, append_nil}
-use lib.ListN.{length, take, drop, length_append, drop_of_length_le}
-use lib.Seq.{drop_cons}
+use mathlib.Core.List.{List, [], ◌∷◌, ◌++◌, append-nil}
+use lib.ListN.{length, take, drop, length-append, drop_of_length-le}
+use lib.Seq.{drop-cons}
 use Rattle.model.specs.Edit.{put_before, drop_first, first_mark}
 use Rattle.model.specs.Marks.{access, count, ones, remove, wanted}
 use Rattle.model.specs.Tree.{Tree, marks, size}
@@ -20,7 +20,7 @@ use Rattle.model.specs.Word.{digit}
 
 pub put_before_size : (ys : List Bool) (t : Tree) → size t + length ys ≡ size (put_before ys t)
 put_before_size ys t =
-    omega (arith, size_marks t, size_marks (put_before ys t), ap length (put_before_marks ys t), length_append ys (marks t))
+    omega (arith, size_marks t, size_marks (put_before ys t), ap length (put_before_marks ys t), length-append ys (marks t))
 
 pub put_before_count : (ys : List Bool) (t : Tree) → count true (marks t) + count true ys ≡ count true (marks (put_before ys t))
 put_before_count ys t = omega (arith, ap (count true) (put_before_marks ys t), count_append true ys (marks t))
@@ -36,7 +36,7 @@ module _ (t : Tree) (b : Bool) (e : first_mark t ≡ b ∷ []) where
   parts = rw e at (drop_first_marks t)
 
   pub drop_first_size : size t ≡ suc (size (drop_first t))
-  drop_first_size = omega (arith, size_marks t, size_marks (drop_first t), ap length parts, length_append (b ∷ []) (marks (drop_first t)))
+  drop_first_size = omega (arith, size_marks t, size_marks (drop_first t), ap length parts, length-append (b ∷ []) (marks (drop_first t)))
 
   pub drop_first_count : count true (marks t) ≡ digit b + count true (marks (drop_first t))
   drop_first_count = omega (arith, ap (count true) parts, count_append true (b ∷ []) (marks (drop_first t)), count_one b)
@@ -78,14 +78,14 @@ module _ {a : Leaf} (xs : List Bool) (p : a ≡ leaf_of xs) (h : length xs ≤ 1
 
   -- the last mark taken off
   past : drop (suc (length xs - 1)) xs ≡ []
-  past = drop_of_length_le xs {i = suc (length xs - 1)} (omega arith)
+  past = drop_of_length-le xs {i = suc (length xs - 1)} (omega arith)
 
   pub last_removed : {c : Leaf} → c ≡ leaf_of (remove (length xs - 1) (bits_of a)) → c ≡ leaf_of (take (length xs - 1) xs)
   unfolding remove
-  last_removed s = removed (length xs - 1) xs p h (omega arith) s ∙ ap leaf_of (rw past (append_nil (take (length xs - 1) xs)))
+  last_removed s = removed (length xs - 1) xs p h (omega arith) s ∙ ap leaf_of (rw past (append-nil (take (length xs - 1) xs)))
 
   pub last_marked : {b : Bool} → b ≡ access (length xs - 1) (bits_of a) → drop (length xs - 1) xs ≡ b ∷ []
   unfolding access
   last_marked s =
-      drop_cons xs (length xs - 1) false (omega arith)
+      drop-cons xs (length xs - 1) false (omega arith)
       ∙ ap₂ {C = List Bool} (λ (x : Bool) (ys : List Bool). x ∷ ys) (sym (marked (length xs - 1) xs p h s)) past

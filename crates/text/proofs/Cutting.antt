@@ -1,14 +1,14 @@
 -- Pieces between marks, by where the first mark stands, and texts compared byte by byte.
 use Prim.Native.Nat.{ℕ, zero, suc, ◌+◌, ◌≤◌, ◌<◌}
-use native.Mathlib.Numerals.{add_one}
+use native.Mathlib.Numerals.{add-one}
 use native.Mathlib.Omega.{arith}
 use mathlib.Core.Path.{◌≡◌, refl, sym, ap, ◌∙◌}
 use mathlib.Core.Bool.{Bool, true, false, ◌&&◌}
 use mathlib.Core.List.{List, [], ◌∷◌}
 use lib.Dec.{eqb, ltb}
-use lib.ListN.{length, take, drop, get_or, drop_of_length_le}
-use lib.Seq.{drop_cons}
-use borrow.Author.Tests.{eq_eqb, ne_eqb}
+use lib.ListN.{length, take, drop, get_or, drop_of_length-le}
+use lib.Seq.{drop-cons}
+use borrow.Author.Tests.{eq-eqb, ne_eqb}
 use Rattle.bytes.specs.Bytes.{index_after, index_of}
 use Rattle.model.proofs.Cases.{by_ltb, by_test}
 use Rattle.text.specs.Text.{onto_first, pieces, same}
@@ -60,14 +60,14 @@ same_long (x ∷ a) (y ∷ b) n = by_test (eqb x y) (λ e. rw e (same_long a b (
 module _ (a b : List ℕ) (i : ℕ) (h : i < length a) (k : i < length b) where
   same_here : same (drop i a) (drop i b) ≡ eqb (get_or a i 0) (get_or b i 0) && same (drop (suc i) a) (drop (suc i) b)
   unfolding same
-  same_here = rw (drop_cons a i 0 h, drop_cons b i 0 k)
+  same_here = rw (drop-cons a i 0 h, drop-cons b i 0 k)
 
   pub same_on : get_or a i 0 ≡ get_or b i 0 → same (drop i a) (drop i b) ≡ same (drop (i + 1) a) (drop (i + 1) b)
-  same_on e = rw (same_here, eq_eqb (get_or a i 0) (get_or b i 0) e, add_one i)
+  same_on e = rw (same_here, eq-eqb (get_or a i 0) (get_or b i 0) e, add-one i)
 
   pub same_not : (get_or a i 0 ≡ get_or b i 0 → ⊥) → same (drop i a) (drop i b) ≡ false
   same_not n = rw (same_here, ne_eqb (get_or a i 0) (get_or b i 0) n)
 
 pub same_end : (a b : List ℕ) (i : ℕ) → length a ≤ i → length b ≤ i → same (drop i a) (drop i b) ≡ true
 unfolding same
-same_end a b i h k = rw (drop_of_length_le a {i = i} h, drop_of_length_le b {i = i} k)
+same_end a b i h k = rw (drop_of_length-le a {i = i} h, drop_of_length-le b {i = i} k)

@@ -1,15 +1,15 @@
 -- The fields of a line, by where its first space stands; and a field that is a number.
 use Prim.Native.Nat.{ℕ, suc, ◌+◌, ◌-◌, ◌≤◌, ◌<◌}
-use native.Mathlib.Numerals.{add_one}
+use native.Mathlib.Numerals.{add-one}
 use native.Mathlib.Omega.{arith}
 use mathlib.Core.Path.{◌≡◌, refl, sym, ap, ◌∙◌}
 use mathlib.Core.Bool.{false, ◌&&◌}
 use mathlib.Core.List.{List, [], ◌∷◌}
 use mathlib.Core.Option.{Option, none, some, bind}
 use lib.Dec.{eqb, leb, ltb}
-use lib.ListN.{length, take, drop, length_drop}
+use lib.ListN.{length, take, drop, length-drop}
 use lib.Seq.{take_all}
-use borrow.Author.Tests.{eqb_true, le_ltb}
+use borrow.Author.Tests.{eqb-true, le-ltb}
 use Rattle.bytes.specs.Bytes.{index_after, index_of}
 use Rattle.model.proofs.Cases.{by_ltb, by_test}
 use Rattle.text.specs.Text.{all_digits, decimal, fields, number_in, one_number, space, worth}
@@ -26,7 +26,7 @@ unfolding all_digits index_of index_after worth
 spaced_digits base most [] h = absurd (omega arith)
 spaced_digits base most (b ∷ bs) h =
     by_test (eqb b space)
-    (λ e. rw (eqb_true b space e, le_ltb 16 base most))
+    (λ e. rw (eqb-true b space e, le-ltb 16 base most))
     (λ e.
     let later : all_digits base bs ≡ false =
     spaced_digits base most bs (let less : suc (index_of space bs) < suc (length bs) = rw e at h in omega arith) in
@@ -51,7 +51,7 @@ behind bs i = take (length bs - (i + 1)) (drop (i + 1) bs)
 
 -- that is all from the next place on
 all_behind : (bs : List ℕ) (i : ℕ) → behind bs i ≡ drop (i + 1) bs
-all_behind bs i = take_all (length bs - (i + 1)) (drop (i + 1) bs) (omega (arith, length_drop (i + 1) bs))
+all_behind bs i = take_all (length bs - (i + 1)) (drop (i + 1) bs) (omega (arith, length-drop (i + 1) bs))
 
 module _ {bs : List ℕ} {i : ℕ} (c : Cut bs i) where
   -- no space: one field
@@ -62,7 +62,7 @@ module _ {bs : List ℕ} {i : ℕ} (c : Cut bs i) where
   -- what stands before the first space, and the fields behind it
   pub fields_more : i < length bs → fields bs ≡ take i bs ∷ fields (drop (i + 1) bs)
   unfolding fields
-  fields_more h = rw (add_one i, c.here) (pieces_more space bs (rw c.here at h))
+  fields_more h = rw (add-one i, c.here) (pieces_more space bs (rw c.here at h))
 
   -- the same with all that stands behind it
   pub more : i < length bs → fields bs ≡ take i bs ∷ fields (behind bs i)

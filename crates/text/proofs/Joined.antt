@@ -4,7 +4,7 @@ use native.Mathlib.Omega.{arith}
 use mathlib.Core.Path.{◌≡◌, refl, sym, ap, ap₂, ◌∙◌}
 use mathlib.Core.List.{List, [], ◌∷◌, ◌++◌}
 use lib.Dec.{eqb}
-use borrow.Author.Tests.{eqb_true, ne_eqb}
+use borrow.Author.Tests.{eqb-true, ne_eqb}
 use Rattle.model.proofs.Cases.{by_ltb, by_test}
 use Rattle.text.specs.Text.{after_line, all_ended, decimal_text, digits, fields, first_line, fitting, glyph, lines, newline, onto_first, pieces, space}
 use Rattle.text.proofs.Digits.{glyph_figure, glyph_letter}
@@ -90,7 +90,7 @@ unfolding between pieces
 between_pieces m [] = refl
 between_pieces m (b ∷ bs) =
     by_test (eqb b m)
-    (λ e. rw (pieces, e) (between_none m bs ∙ ap₂ (λ (x : ℕ) (y : List ℕ). x ∷ y) (sym (eqb_true b m e)) (between_pieces m bs)))
+    (λ e. rw (pieces, e) (between_none m bs ∙ ap₂ (λ (x : ℕ) (y : List ℕ). x ∷ y) (sym (eqb-true b m e)) (between_pieces m bs)))
     (λ e. rw (pieces, e) (between_onto m b (pieces m bs) ∙ ap (λ (y : List ℕ). b ∷ y) (between_pieces m bs)))
 
 -- ---- a number's digits

@@ -4,8 +4,8 @@ use native.Mathlib.Omega.{arith}
 use mathlib.Core.Path.{◌≡◌, refl, sym, ap, ap₂, ◌∙◌}
 use mathlib.Core.List.{List, [], ◌∷◌}
 use lib.Dec.{eqb}
-use lib.ListN.{length, take, drop, get_or, drop_of_length_le}
-use lib.Seq.{drop_cons, drop_drop, drop_length, take_all, take_length}
+use lib.ListN.{length, take, drop, get_or, drop_of_length-le}
+use lib.Seq.{drop-cons, drop-drop, drop-length, take_all, take-length}
 use Rattle.bytes.specs.Bytes.{index_after, index_of, slice}
 use Rattle.model.proofs.Cases.{by_ltb, by_test}
 use Rattle.text.specs.Text.{after_line, closed, first_line, lines, newline, pieces}
@@ -29,7 +29,7 @@ index_past at i e h = omega arith
 module _ (input : List ℕ) (at e : ℕ) (ends : e ≡ at + index_of newline (slice at (length input) input)) where
   rest_slice : slice at (length input) input ≡ drop at input
   unfolding slice
-  rest_slice = ap (drop at) (take_length input)
+  rest_slice = ap (drop at) (take-length input)
 
   index : index_of newline (drop at input) ≡ e - at
   index = let i = ap (index_of newline) rest_slice in omega arith
@@ -43,12 +43,12 @@ module _ (input : List ℕ) (at e : ℕ) (ends : e ≡ at + index_of newline (sl
   rest_is h =
       let there : at + suc (e - at) ≡ e + 1 = omega arith in
       sym
-      (after_is (drop at input) ∙ ap (λ (k : ℕ). drop (suc k) (drop at input)) index ∙ drop_drop (suc (e - at)) at input
+      (after_is (drop at input) ∙ ap (λ (k : ℕ). drop (suc k) (drop at input)) index ∙ drop-drop (suc (e - at)) at input
       ∙ ap (λ (k : ℕ). drop k input) there)
 
   pub no_rest : at ≤ e → e ≡ length input → drop e input ≡ after_line (drop at input)
   no_rest h all =
-      ap (λ (k : ℕ). drop k input) all ∙ drop_length input ∙ sym (drop_of_length_le input {i = e + 1} (omega arith)) ∙ rest_is h
+      ap (λ (k : ℕ). drop k input) all ∙ drop-length input ∙ sym (drop_of_length-le input {i = e + 1} (omega arith)) ∙ rest_is h
 
 -- ---- the lines of an input
 
@@ -83,7 +83,7 @@ lines_are b bs =
     ap closed (pieces_one newline (b ∷ bs) h) ∙ last_line b bs
     ∙ ap₂ (λ (l rest : List ℕ). l ∷ closed (pieces newline rest))
     (sym (first_is (b ∷ bs) ∙ take_all (index_of newline (b ∷ bs)) (b ∷ bs) h))
-    (sym (after_is (b ∷ bs) ∙ drop_of_length_le (b ∷ bs) {i = suc (index_of newline (b ∷ bs))} (omega arith))))
+    (sym (after_is (b ∷ bs) ∙ drop_of_length-le (b ∷ bs) {i = suc (index_of newline (b ∷ bs))} (omega arith))))
 
 pub no_lines : lines [] ≡ []
 unfolding lines closed pieces
@@ -92,9 +92,9 @@ no_lines = refl
 -- from a place on
 
 pub nothing_left : (input : List ℕ) (at : ℕ) → length input ≤ at → lines (drop at input) ≡ []
-nothing_left input at h = ap lines (drop_of_length_le input {i = at} h) ∙ no_lines
+nothing_left input at h = ap lines (drop_of_length-le input {i = at} h) ∙ no_lines
 
 pub lines_from : (input : List ℕ) (at : ℕ) → at < length input → lines (drop at input) ≡ first_line (drop at input) ∷ lines (after_line (drop at input))
 lines_from input at h =
-    let e = drop_cons input at 0 h in
+    let e = drop-cons input at 0 h in
     ap lines e ∙ lines_are (get_or input at 0) (drop (suc at) input) ∙ ap (λ (bs : List ℕ). first_line bs ∷ lines (after_line bs)) (sym e)

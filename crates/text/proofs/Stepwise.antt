@@ -1,14 +1,14 @@
 -- Digits read, counted and put one by one: how far each loop has come, and what its next pass does.
 use Prim.Native.Nat.{ℕ, zero, suc, ◌+◌, ◌-◌, ◌*◌, ◌/◌, ◌%◌, ◌^◌, ◌≤◌, ◌<◌}
-use native.Mathlib.Nat.{div_lt_iff_lt_mul, le_div_iff_mul_le, div_div_eq_div_mul, mul_le_mul_right, pow_suc, pow_le_pow_right, one_le_pow}
-use native.Mathlib.Numerals.{add_one}
+use native.Mathlib.Nat.{div-lt_iff_lt-mul, le-div_iff_mul-le, div-div-eq-div-mul, mul-le-mul_right, pow-suc, pow-le-pow_right, one-le-pow}
+use native.Mathlib.Numerals.{add-one}
 use native.Mathlib.Omega.{arith}
 use mathlib.Core.Path.{◌≡◌, refl, sym, ap, ◌∙◌}
 use mathlib.Core.Bool.{Bool, true, false}
 use mathlib.Core.List.{List, [], ◌∷◌, ◌++◌}
 use mathlib.Core.Option.{Option, none, some}
-use lib.ListN.{length, take, drop, get_or, set, length_set}
-use lib.Seq.{length_take_le, take_all, take_suc, split_at}
+use lib.ListN.{length, take, drop, get_or, set, length-set}
+use lib.Seq.{length-take-le, take_all, take-suc, split_at}
 use Rattle.model.proofs.Cases.{by_ltb}
 use Rattle.text.specs.Text.{all_digits, digits, fitting, glyph, numeral, over, value_of, worth}
 use Rattle.text.proofs.Digits.{digits_more, digits_not, fitting_here, fitting_later, numeral_digits, numeral_not, value_below, value_more}
@@ -25,7 +25,7 @@ pub record Read (base : ℕ) (bs : List ℕ) (k value : ℕ) : Type 0 where
 module _ {base k value : ℕ} (bs : List ℕ) (so : Read base bs k value) where
   -- it is below base ^ k
   pub read_below : value < base ^ k
-  read_below = rw so.make (rw (length_take_le k bs so.within_reach) at (value_below base (take k bs) so.are_digits))
+  read_below = rw so.make (rw (length-take-le k bs so.within_reach) at (value_below base (take k bs) so.are_digits))
 
   -- the next byte, which is worth so much
   module _ (more : k < length bs) {w : ℕ} (next : w ≡ worth (get_or bs k 0)) where
@@ -33,8 +33,8 @@ module _ {base k value : ℕ} (bs : List ℕ) (so : Read base bs k value) where
     pub read_more : w < base → Read base bs (k + 1) (value * base + w)
     read_more h = record {
       within_reach = omega arith;
-      are_digits = rw (add_one k, take_suc bs k 0 more) (digits_more base (take k bs) (get_or bs k 0) so.are_digits (rw next at h));
-      make = rw (add_one k, take_suc bs k 0 more, so.make, next) (sym (value_more base (take k bs) (get_or bs k 0)));
+      are_digits = rw (add-one k, take-suc bs k 0 more) (digits_more base (take k bs) (get_or bs k 0) so.are_digits (rw next at h));
+      make = rw (add-one k, take-suc bs k 0 more, so.make, next) (sym (value_more base (take k bs) (get_or bs k 0)));
     }
 
     -- no digit
@@ -47,9 +47,9 @@ module _ {base k value : ℕ} (bs : List ℕ) (so : Read base bs k value) where
     pub read_fits : w < base → base ^ length bs ≤ 2 ^ 64 → value * base + w < 2 ^ 64
     read_fits h fits =
         let here : value < base ^ k = read_below in
-        let product : suc value * base ≤ base ^ k * base = mul_le_mul_right base here in
-        let grows : base ^ suc k ≤ base ^ length bs = pow_le_pow_right {n = base} (omega arith) {i = suc k} {j = length bs} more in
-        omega (arith, pow_suc base k)
+        let product : suc value * base ≤ base ^ k * base = mul-le-mul_right base here in
+        let grows : base ^ suc k ≤ base ^ length bs = pow-le-pow_right {n = base} (omega arith) {i = suc k} {j = length bs} more in
+        omega (arith, pow-suc base k)
 
   -- every byte was read
   pub read_all : length bs ≤ k → some value ≡ numeral base bs
@@ -65,7 +65,7 @@ read_none base bs = record { within_reach = omega arith; are_digits = refl; make
 -- ---- digits counted
 
 pow_above : (k : ℕ) → 0 < 10 ^ k
-pow_above k = one_le_pow k 10 (omega arith)
+pow_above k = one-le-pow k 10 (omega arith)
 
 -- the count that is sought from 1 on is the one sought from k on, and this is what k digits leave of the number
 pub record Sought (n k rest : ℕ) : Type 0 where
@@ -82,13 +82,13 @@ module _ {n k rest : ℕ} (s : Sought n k rest) where
   -- nothing is left: that many digits suffice
   pub sought_all : rest ≤ 0 → k ≡ fitting 19 1 n
   sought_all h =
-      let few : n < 10 ^ k = omega (arith, (div_lt_iff_lt_mul {k = 10 ^ k} {x = n} {y = 1} (pow_above k)).0 (omega arith)) in
+      let few : n < 10 ^ k = omega (arith, (div-lt_iff_lt-mul {k = 10 ^ k} {x = n} {y = 1} (pow_above k)).0 (omega arith)) in
       sym (s.onward ∙ fitting_here (20 - k) k n few)
 
   -- something is left: more digits are needed
   module _ (h : 0 < rest) (word : n < 2 ^ 64) where
     many : 10 ^ k ≤ n
-    many = omega (arith, (le_div_iff_mul_le {k = 10 ^ k} {x = 1} {y = n} (pow_above k)).0 (omega arith))
+    many = omega (arith, (le-div_iff_mul-le {k = 10 ^ k} {x = 1} {y = n} (pow_above k)).0 (omega arith))
 
     pub sought_few : k < 20
     sought_few = by_ltb k 20 (λ _ l. l) (λ _ l. absurd (let last : k ≡ 20 = omega arith in let large : 10 ^ 20 ≤ n = rw last at many in omega arith))
@@ -97,11 +97,11 @@ module _ {n k rest : ℕ} (s : Sought n k rest) where
     sought_more = record {
       least = omega arith;
       most = omega (arith, sought_few);
-      left = rw (add_one k, pow_suc 10 k, s.left) (div_div_eq_div_mul n (10 ^ k) 10);
+      left = rw (add-one k, pow-suc 10 k, s.left) (div-div-eq-div-mul n (10 ^ k) 10);
       onward =
           let tries : 20 - k ≡ suc (20 - (k + 1)) = omega (arith, sought_few) in
           s.onward ∙ ap (λ (t : ℕ). fitting t k n) tries ∙ fitting_later (20 - (k + 1)) k n many
-          ∙ ap (λ (j : ℕ). fitting (20 - (k + 1)) j n) (sym (add_one k));
+          ∙ ap (λ (j : ℕ). fitting (20 - (k + 1)) j n) (sym (add-one k));
     }
 
 -- ---- digits put
@@ -129,7 +129,7 @@ module _ {base at count number : ℕ} {was out : List ℕ} {i left : ℕ} (p : T
       let long : length (digits base (i - 1) (left / base)) ≡ i - 1 = digits_length base (i - 1) (left / base) in
       record {
         few = omega (arith, p.few);
-        as_long = length_set out (at + (i - 1)) g ∙ p.as_long;
+        as_long = length-set out (at + (i - 1)) g ∙ p.as_long;
         whole =
             rw e
             (rw long at (over_last at (digits base (i - 1) (left / base)) (glyph (left % base)) out (omega (arith, long, p.as_long, p.few)))

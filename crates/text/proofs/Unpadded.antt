@@ -1,6 +1,6 @@
 -- A number has one decimal text without leading zeros: digits are told apart by what they are worth, from the highest on.
 use Prim.Native.Nat.{ℕ, zero, suc, ◌+◌, ◌*◌, ◌^◌, ◌≤◌, ◌<◌}
-use native.Mathlib.Nat.{mul_le_mul_right, pow_le_pow_right}
+use native.Mathlib.Nat.{mul-le-mul_right, pow-le-pow_right}
 use native.Mathlib.Omega.{arith}
 use mathlib.Core.Path.{◌≡◌, refl, sym, ap, ap₂, ◌∙◌}
 use mathlib.Core.Bool.{Bool, true, false, not}
@@ -35,7 +35,7 @@ digit_first b bs e =
 -- the highest digit of two numbers that are the same
 highest : (P w v w' v' : ℕ) → v < P → v' < P → w * P + v ≡ w' * P + v' → w ≤ w'
 highest P w v w' v' h h' e =
-    by_leb w w' (λ _ l. l) (λ _ l. absurd (let product : suc w' * P ≤ w * P = mul_le_mul_right P l in omega arith))
+    by_leb w w' (λ _ l. l) (λ _ l. absurd (let product : suc w' * P ≤ w * P = mul-le-mul_right P l in omega arith))
 
 -- as many digits that make the same number are the same
 pub digits_told_apart : (a b : List ℕ) → length a ≡ length b → all_digits 10 a ≡ true → all_digits 10 b ≡ true → value_of 10 a ≡ value_of 10 b
@@ -71,7 +71,7 @@ wide b c bs u d =
     (λ e. never (rw e at u))
     (λ e. by_ltb (worth b) 1
     (λ _ l. absurd (let zero_byte : b ≡ 48 = omega (arith, byte_is b first.0) in never (sym e ∙ ap (λ (x : ℕ). eqb x 48) zero_byte)))
-    (λ _ l. let product : 1 * 10 ^ length (c ∷ bs) ≤ worth b * 10 ^ length (c ∷ bs) = mul_le_mul_right (10 ^ length (c ∷ bs)) l in omega arith))
+    (λ _ l. let product : 1 * 10 ^ length (c ∷ bs) ≤ worth b * 10 ^ length (c ∷ bs) = mul-le-mul_right (10 ^ length (c ∷ bs)) l in omega arith))
 
 -- so many digits, of which none leads with a zero, are as many as are fitting
 fitting_is : (bs : List ℕ) → 1 ≤ length bs → length bs ≤ 18 → unpadded bs ≡ true → all_digits 10 bs ≡ true
@@ -86,12 +86,12 @@ fitting_is (b ∷ c ∷ bs) l m u d =
     let k : ℕ = length (b ∷ c ∷ bs) in
     let below : n < 10 ^ k = value_below 10 (b ∷ c ∷ bs) d in
     let few : fitting 19 1 n ≤ k = fitting_least 19 1 n k l below in
-    let in_reach : 10 ^ k ≤ 10 ^ 20 = pow_le_pow_right {n = 10} (omega arith) {i = k} {j = 20} (omega arith) in
+    let in_reach : 10 ^ k ≤ 10 ^ 20 = pow-le-pow_right {n = 10} (omega arith) {i = k} {j = 20} (omega arith) in
     let enough : n < 10 ^ fitting 19 1 n = fitting_enough 19 1 n (omega arith) in
     by_leb k (fitting 19 1 n) (λ _ h. omega arith)
     (λ _ h. absurd (
     let less : 10 ^ fitting 19 1 n ≤ 10 ^ length (c ∷ bs) =
-    pow_le_pow_right {n = 10} (omega arith) {i = fitting 19 1 n} {j = length (c ∷ bs)} (omega arith) in
+    pow-le-pow_right {n = 10} (omega arith) {i = fitting 19 1 n} {j = length (c ∷ bs)} (omega arith) in
     omega (arith, wide b c bs u d)))
 
 -- ---- what is read is told the same

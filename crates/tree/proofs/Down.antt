@@ -1,7 +1,7 @@
 -- Going down a path: a walk stands on a subtree of which something is known, and a step goes to a child of it. What was read says
 -- which tree it is.
 use Prim.Native.Nat.{ℕ, ◌-◌, ◌≤◌, ◌<◌}
-use native.Mathlib.Nat.{sub_zero}
+use native.Mathlib.Nat.{sub-zero}
 use native.Mathlib.Omega.{arith}
 use mathlib.Core.Path.{◌≡◌, refl, sym, ap, ◌∙◌}
 use mathlib.Core.Bool.{Bool, true, false}
@@ -42,7 +42,7 @@ pub picked_step : (f : Fork) (len i : ℕ) {child total skip : ℕ} {left : Bool
     (i < f.left_total → s ≡ step_left f i) × (f.left_total ≤ i → s ≡ step_right f len i)
 picked_step f len i {left = left} a b c passed failed =
     by_test left
-    (λ t. (λ h. rw (t, a.one t, b.one t, c.one t, sub_zero i), λ h. absurd (omega (arith, passed t))))
+    (λ t. (λ h. rw (t, a.one t, b.one t, c.one t, sub-zero i), λ h. absurd (omega (arith, passed t))))
     (λ t. (λ h. absurd (omega (arith, failed t)), λ h. rw (t, a.other t, b.other t, c.other t)))
 
 -- ---- a tree that stands at a number, by what was read there

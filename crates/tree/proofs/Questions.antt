@@ -1,13 +1,13 @@
 -- The questions along a path: what is known of the subtree that a walk stands on, and how a step keeps it.
 use Prim.Native.Nat.{ℕ, ◌+◌, ◌-◌, ◌/◌, ◌%◌, ◌^◌, ◌≤◌, ◌<◌}
-use native.Mathlib.Nat.{add_zero, sub_zero, zero_add}
+use native.Mathlib.Nat.{add-zero, sub-zero, zero-add}
 use native.Mathlib.Omega.{arith}
-use borrow.Author.Tests.{lt_ltb, le_ltb}
+use borrow.Author.Tests.{lt-ltb, le-ltb}
 use mathlib.Core.Path.{◌≡◌, refl, sym, ap, ◌∙◌}
 use mathlib.Core.Bool.{Bool, true, false}
 use mathlib.Core.List.{List}
 use mathlib.Core.Option.{Option, none, some}
-use lib.ListN.{length, take, replicate, length_take}
+use lib.ListN.{length, take, replicate, length-take}
 use Rattle.model.specs.Edit.{leaf_at}
 use Rattle.model.specs.Marks.{access, count, further, ones, rank, select, wanted}
 use Rattle.model.specs.Tree as Tree
@@ -37,11 +37,11 @@ use Rattle.tree.proofs.Down.{On, OnFork, down_left, down_right}
 
 leaf_left : (i m : ℕ) (l r : Tree) → i < size l → leaf_at i (Tree.fork m l r) ≡ leaf_at i l
 unfolding leaf_at
-leaf_left i m l r h = rw (leaf_at, lt_ltb i (size l) h)
+leaf_left i m l r h = rw (leaf_at, lt-ltb i (size l) h)
 
 leaf_right : (i m : ℕ) (l r : Tree) → size l ≤ i → leaf_at i (Tree.fork m l r) ≡ leaf_at (i - size l) r
 unfolding leaf_at
-leaf_right i m l r h = rw (leaf_at, le_ltb i (size l) h)
+leaf_right i m l r h = rw (leaf_at, le-ltb i (size l) h)
 
 -- A walk to a place of the tree t₀ stands on a subtree of len marks, at a place of it, with so many strikes before the subtree.
 pub record Reaching (t₀ : Tree) (place len at sum : ℕ) (t : Tree) : Type 0 where
@@ -52,7 +52,7 @@ pub record Reaching (t₀ : Tree) (place len at sum : ℕ) (t : Tree) : Type 0 w
   pub strikes : sum + rank true at (marks t) ≡ rank true place (marks t₀)
 
 pub reach_begin : (t : Tree) (place len : ℕ) → size t ≡ len → place ≤ len → Reaching t place len place 0 t
-reach_begin t place len e h = record { total = e; within = omega arith; leaf = refl; mark = refl; strikes = zero_add (rank true place (marks t)) }
+reach_begin t place len e h = record { total = e; within = omega arith; leaf = refl; mark = refl; strikes = zero-add (rank true place (marks t)) }
 
 module _ {t₀ : Tree} {place len at sum : ℕ} where
   -- at a leaf the walk has come to the spot
@@ -123,7 +123,7 @@ pub rank_most : (t : Tree) (b : Bool) (end : ℕ) → rank b end (marks t) ≤ s
 unfolding rank count
 rank_most t b end =
     let xs : List Bool = take end (marks t) in
-    omega (arith, ones_le (wanted b xs), wanted_length b xs, length_take end (marks t), size_marks t)
+    omega (arith, ones_le (wanted b xs), wanted_length b xs, length-take end (marks t), size_marks t)
 
 -- ---- select
 
@@ -142,7 +142,7 @@ select_begin t b k h =
       less = omega arith;
       place = further_zero (select b (k - 1 + 1) (marks t)) ∙ ap (λ (j : ℕ). select b j (marks t)) whole;
       room = omega arith;
-      last = λ _. zero_add (size t);
+      last = λ _. zero-add (size t);
     }
 
 -- how many marks of a kind the left child holds, from what its fork says
@@ -153,23 +153,23 @@ kind_count false t = omega (arith, count_size t)
 -- no more strikes stand before a place than marks
 pub rank_within : (t : Tree) (end : ℕ) → rank true end (marks t) ≤ end
 unfolding rank
-rank_within t end = omega (arith, count_both (take end (marks t)), length_take end (marks t))
+rank_within t end = omega (arith, count_both (take end (marks t)), length-take end (marks t))
 
 -- how many of a kind stand before a place, from the strikes before it
 pub kind_rank : (t : Tree) (b : Bool) (end : ℕ) → end ≤ size t → of_kind b end (rank true end (marks t)) ≡ rank b end (marks t)
 unfolding rank
 kind_rank t true end h = refl
-kind_rank t false end h = omega (arith, count_both (take end (marks t)), length_take end (marks t), size_marks t)
+kind_rank t false end h = omega (arith, count_both (take end (marks t)), length-take end (marks t), size_marks t)
 
 -- a place before the end is told, counted from the beginning
 found_in : (before total p : ℕ) → before + p < total → found_at before total (Place.At p) ≡ At (before + p)
-found_in before total p h = rw (found_at, lt_ltb (before + p) total h)
+found_in before total p h = rw (found_at, lt-ltb (before + p) total h)
 
 -- a place past the end is none
 found_past : (before total n : ℕ) (o : Option ℕ) → before + n ≡ total → found_at before total (placed (further n o)) ≡ TooFew
 unfolding placed further
 found_past before total n none h = refl
-found_past before total n (some q) h = rw (found_at, le_ltb (before + (n + q)) total (omega arith))
+found_past before total n (some q) h = rw (found_at, le-ltb (before + (n + q)) total (omega arith))
 
 near_of : (before : ℕ) (o : Option ℕ) → ((p : ℕ) → o ≡ some p → before + p < 2 ^ 64) → Near before (placed o)
 unfolding placed
@@ -214,7 +214,7 @@ module _ {t₀ : Tree} {b : Bool} {k skip before : ℕ} where
     unfolding size marks fork_of
     select_first h =
         let n : skip < count b (marks l) = rw (kind_count b l) at (rw e at h) in
-        rw (sub_zero skip, add_zero before) (record {
+        rw (sub-zero skip, add-zero before) (record {
           less = p.less;
           place = ap (further before) (sym (select_left l r b (skip + 1) (omega arith))) ∙ p.place;
           room = omega (arith, p.room);

@@ -5,13 +5,13 @@ use native.Mathlib.Omega.{arith}
 use mathlib.Core.Path.{◌≡◌, refl, sym, ap, subst, ◌∙◌}
 use mathlib.Core.Bool.{Bool, true, false, cond}
 use mathlib.Core.Logic.{◌⊎◌, inl, inr}
-use borrow.Author.Tests.{ltb_true, ltb_false}
+use borrow.Author.Tests.{ltb-true, ltb-false}
 use lib.Dec.{T, ltb}
 use lib.IntN.{ℤ, pos, negsuc, neg_ℤ, sub_ℕ, nat_abs, ◌+ℤ◌, ◌-ℤ◌}
 use lib.Signed.{lt_z, non_neg}
 use mir.Syntax.{w64}
 use mir.Val.{SFits, to_z, of_z}
-use mir.ValLaws.{to_z_of_z}
+use mir.ValLaws.{to_z-of_z}
 use Rattle.turn.specs.Apart.{Apart, Within}
 
 -- ---- one difference
@@ -61,8 +61,8 @@ difference : (x y : ℕ) → Apart (sub_ℕ x y) x y
 difference x y = tested (ltb x y) refl
   where
     tested : (t : Bool) → ltb x y ≡ t → Apart (cond t (negsuc (y - suc x)) (pos (x - y))) x y
-    tested true e = let h = ltb_true x y e in record { is = omega arith }
-    tested false e = let h = ltb_false x y e in record { is = omega arith }
+    tested true e = let h = ltb-true x y e in record { is = omega arith }
+    tested false e = let h = ltb-false x y e in record { is = omega arith }
 
 pub sum : (z z' : ℤ) {x y x' y' : ℕ} → Apart z x y → Apart z' x' y' → Apart (z +ℤ z') (x + x') (y + y')
 sum (pos a) (pos b) p q = record { is = let s = p.is in let t = q.is in omega arith }
@@ -81,16 +81,16 @@ adds (negsuc n) {x} {y} p = let t = p.is in one (pos x) (sub_ℕ y (suc n)) (sam
 -- ---- tests
 
 pub less : (z z' : ℤ) {x y k : ℕ} → Apart z x k → Apart z' y k → lt_z z z' ≡ true → x < y
-less (pos a) (pos b) p q e = let s = p.is in let t = q.is in let h = ltb_true a b e in omega arith
+less (pos a) (pos b) p q e = let s = p.is in let t = q.is in let h = ltb-true a b e in omega arith
 less (pos a) (negsuc b) p q e = let z : ◌≡◌ {A = ℕ} 0 1 = cc in absurd (omega arith)
 less (negsuc a) (pos b) p q e = let s = p.is in let t = q.is in omega arith
-less (negsuc a) (negsuc b) p q e = let s = p.is in let t = q.is in let h = ltb_true b a e in omega arith
+less (negsuc a) (negsuc b) p q e = let s = p.is in let t = q.is in let h = ltb-true b a e in omega arith
 
 pub not_less : (z z' : ℤ) {x y k : ℕ} → Apart z x k → Apart z' y k → lt_z z z' ≡ false → y ≤ x
-not_less (pos a) (pos b) p q e = let s = p.is in let t = q.is in let h = ltb_false a b e in omega arith
+not_less (pos a) (pos b) p q e = let s = p.is in let t = q.is in let h = ltb-false a b e in omega arith
 not_less (pos a) (negsuc b) p q e = let s = p.is in let t = q.is in omega arith
 not_less (negsuc a) (pos b) p q e = let z : ◌≡◌ {A = ℕ} 0 1 = cc in absurd (omega arith)
-not_less (negsuc a) (negsuc b) p q e = let s = p.is in let t = q.is in let h = ltb_false b a e in omega arith
+not_less (negsuc a) (negsuc b) p q e = let s = p.is in let t = q.is in let h = ltb-false b a e in omega arith
 
 -- ---- words
 
@@ -111,7 +111,7 @@ fits z p h l = within_fits z (within 999 z p h l)
 
 -- what is read of a word is what was written
 pub kept : {x y : ℕ} (z : ℤ) → SFits w64 z → Apart z x y → Apart (held z) x y
-kept z f p = rw (to_z_of_z w64 z f) p
+kept z f p = rw (to_z-of_z w64 z f) p
 
 pub read : (z : ℤ) {x y : ℕ} → Apart z x y → x ≤ y + 999 → y ≤ x + 999 → Apart (held z) x y
 read z p h l = kept z (fits z p h l) p
@@ -127,7 +127,7 @@ whole (negsuc n) p = let t = p.is in absurd (omega arith)
 
 -- words that are alike hold one number
 pub alike : (z z' : ℤ) → SFits w64 z → SFits w64 z' → of_z w64 z ≡ of_z w64 z' → z ≡ z'
-alike z z' f g e = sym (to_z_of_z w64 z f) ∙ ap (to_z w64) e ∙ to_z_of_z w64 z' g
+alike z z' f g e = sym (to_z-of_z w64 z f) ∙ ap (to_z w64) e ∙ to_z-of_z w64 z' g
 
 -- a number that is tested for being k, and is k, or is not
 pub tested : (z k : ℤ) {x y : ℕ} → SFits w64 z → SFits w64 k → of_z w64 z ≡ of_z w64 k → Apart z x y → Apart k x y

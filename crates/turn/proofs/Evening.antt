@@ -7,7 +7,7 @@ use mathlib.Core.List.{List}
 use lib.IntN.{ℤ, pos}
 use mir.Syntax.{w64}
 use mir.Val.{SFits}
-use mir.ValLaws.{to_z_of_z}
+use mir.ValLaws.{to_z-of_z}
 use Rattle.model.specs.Sound.{Balanced}
 use Rattle.model.specs.Tree as Tree
 use Rattle.model.specs.Tree.{Tree, leaf, fork, height, numbers}
@@ -179,4 +179,4 @@ module _ {w : List ℕ} {n : ℕ} (l r : Tree) (u : Uneven w n l r) where
 
   -- the same of a change that is handed on
   pub evened_read : {w' : List ℕ} (g : ℤ) → SFits w64 g → Moved w w' g (fork n l r) (rebalance n l r) → Evened w w' (held g) n l r
-  evened_read g f m = rw (to_z_of_z w64 g f) (evened m)
+  evened_read g f m = rw (to_z-of_z w64 g f) (evened m)

@@ -1,17 +1,17 @@
 -- Marks as words: the first words of marks do not change when more come, one more word holds the next 64, and a word that fills up
 -- is cut where it is full. So taking in some marks keeps what is written the words of the marks.
 use Prim.Native.Nat.{ℕ, zero, suc, ◌+◌, ◌-◌, ◌*◌, ◌/◌, ◌%◌, ◌^◌, ◌≤◌, ◌<◌}
-use native.Mathlib.Nat.{zero_mod, zero_div, suc_mul, add_comm, mod_eq_of_lt, lt_of_lt_of_le, div_one, mod_one}
-use native.Mathlib.Numerals.{add_one, one_add}
+use native.Mathlib.Nat.{zero-mod, zero-div, suc-mul, add_comm, mod-eq_of_lt, lt_of_lt_of_le, div-one, mod-one}
+use native.Mathlib.Numerals.{add-one, one-add}
 use native.Mathlib.Omega.{arith}
 use mathlib.Core.Path.{◌≡◌, refl, sym, ap, ap₂, ◌∙◌}
 use mathlib.Core.Bool.{Bool}
 use mathlib.Core.List.{List, [], ◌∷◌, ◌++◌, append_assoc}
 use lib.Arith.{digits_div, digits_mod}
 use lib.Bits.{bit_or}
-use lib.ListN.{length, take, drop, get_or, set, length_append, length_drop, drop_of_length_le}
-use lib.Pow.{pow_mono, shr_shr, mod_pow_add}
-use lib.Seq.{take_all, take_append_le, drop_append_le, drop_append_add, drop_drop, drop_cons, set_at}
+use lib.ListN.{length, take, drop, get_or, set, length-append, length-drop, drop_of_length-le}
+use lib.Pow.{pow_mono, shr-shr, mod-pow-add}
+use lib.Seq.{take_all, take-append-le, drop-append-le, drop-append-add, drop-drop, drop-cons, set_at}
 use Rattle.bits.specs.Leaf.{leaf_of, packed}
 use Rattle.bits.specs.declared.leaf.Leaf.{Leaf}
 use Rattle.model.specs.Tree.{Tree, marks, size}
@@ -26,23 +26,23 @@ use Rattle.values.specs.declared.writing.Tail.{Tail}
 
 pub number_take : (n : ℕ) (xs : List Bool) → number (take n xs) ≡ number xs % 2 ^ n
 unfolding number
-number_take zero xs = sym (mod_one (number xs))
-number_take (suc n) [] = sym (zero_mod (2 ^ suc n))
+number_take zero xs = sym (mod-one (number xs))
+number_take (suc n) [] = sym (zero-mod (2 ^ suc n))
 number_take (suc n) (b ∷ xs) =
     let half : (number xs * 2 + digit b) / 2 ≡ number xs = digits_div (number xs) (digit_lt b) in
     let low : (number xs * 2 + digit b) % 2 ≡ digit b = digits_mod (number xs) (digit_lt b) in
     ap (λ (x : ℕ). x * 2 + digit b) (number_take n xs)
-    ∙ sym (ap (λ (k : ℕ). (number xs * 2 + digit b) % 2 ^ k) (sym (add_one n)) ∙ mod_pow_add (number xs * 2 + digit b) n 1
+    ∙ sym (ap (λ (k : ℕ). (number xs * 2 + digit b) % 2 ^ k) (sym (add-one n)) ∙ mod-pow-add (number xs * 2 + digit b) n 1
     ∙ ap₂ (λ (x y : ℕ). x % 2 ^ n * 2 + y) half low)
 
 pub number_drop : (n : ℕ) (xs : List Bool) → number (drop n xs) ≡ number xs / 2 ^ n
 unfolding number
-number_drop zero xs = sym (div_one (number xs))
-number_drop (suc n) [] = sym (zero_div (2 ^ suc n))
+number_drop zero xs = sym (div-one (number xs))
+number_drop (suc n) [] = sym (zero-div (2 ^ suc n))
 number_drop (suc n) (b ∷ xs) =
     number_drop n xs
     ∙ ap (λ (x : ℕ). x / 2 ^ n) (sym (digits_div (number xs) (digit_lt b)))
-    ∙ shr_shr (number xs * 2 + digit b) 1 n ∙ ap (λ (k : ℕ). (number xs * 2 + digit b) / 2 ^ k) (one_add n)
+    ∙ shr-shr (number xs * 2 + digit b) 1 n ∙ ap (λ (k : ℕ). (number xs * 2 + digit b) / 2 ^ k) (one-add n)
 
 -- ---- words of marks
 
@@ -52,8 +52,8 @@ unfolding words_of
 words_more zero xs ys h = refl
 words_more (suc k) xs ys h =
     let n : 64 ≤ length xs = omega arith in
-    ap₂ {C = List ℕ} (λ x r. x ∷ r) (ap number (take_append_le 64 xs ys n))
-    (ap (words_of k) (drop_append_le 64 xs ys n) ∙ words_more k (drop 64 xs) ys (rw (length_drop 64 xs) (omega arith)))
+    ap₂ {C = List ℕ} (λ x r. x ∷ r) (ap number (take-append-le 64 xs ys n))
+    (ap (words_of k) (drop-append-le 64 xs ys n) ∙ words_more k (drop 64 xs) ys (rw (length-drop 64 xs) (omega arith)))
 
 -- one word more
 pub words_next : (k : ℕ) (xs : List Bool) → words_of (suc k) xs ≡ words_of k xs ++ number (take 64 (drop (k * 64) xs)) ∷ []
@@ -61,7 +61,7 @@ unfolding words_of
 words_next zero xs = refl
 words_next (suc k) xs =
     let past : drop (k * 64) (drop 64 xs) ≡ drop (suc k * 64) xs =
-    drop_drop (k * 64) 64 xs ∙ ap (λ (n : ℕ). drop n xs) (add_comm 64 (k * 64) ∙ sym (suc_mul k 64)) in
+    drop-drop (k * 64) 64 xs ∙ ap (λ (n : ℕ). drop n xs) (add_comm 64 (k * 64) ∙ sym (suc-mul k 64)) in
     ap {B = List ℕ} (λ r. number (take 64 xs) ∷ r) (words_next k (drop 64 xs))
     ∙ ap (λ (ys : List Bool). number (take 64 xs) ∷ (words_of k (drop 64 xs) ++ number (take 64 ys) ∷ [])) past
 
@@ -69,7 +69,7 @@ words_next (suc k) xs =
 next_written : (o : List ℕ) (xs : List Bool) (k v : ℕ) (out : List ℕ) → out ≡ words_of k xs ++ drop k o → k < length o
     → v ≡ number (take 64 (drop (k * 64) xs)) → set out k v ≡ words_of (suc k) xs ++ drop (suc k) o
 next_written o xs k v out s h e =
-    ap (λ (y : List ℕ). set y k v) (s ∙ ap (λ (y : List ℕ). words_of k xs ++ y) (drop_cons o k 0 h))
+    ap (λ (y : List ℕ). set y k v) (s ∙ ap (λ (y : List ℕ). words_of k xs ++ y) (drop-cons o k 0 h))
     ∙ set_at (words_of k xs) (get_or o k 0) (drop (suc k) o) v k (words_length k xs)
     ∙ ap (λ (x : ℕ). words_of k xs ++ x ∷ drop (suc k) o) e
     ∙ sym (append_assoc (words_of k xs) (number (take 64 (drop (k * 64) xs)) ∷ []) (drop (suc k) o))
@@ -79,11 +79,11 @@ next_written o xs k v out s h e =
 
 module _ (o : List ℕ) (xs ys : List Bool) (out : List ℕ) (t : Tail) (w : Written o xs out t) where
   waiting_length : length (drop (t.full * 64) xs) ≡ t.filled
-  waiting_length = length_drop (t.full * 64) xs ∙ omega (arith, w.count)
+  waiting_length = length-drop (t.full * 64) xs ∙ omega (arith, w.count)
 
   -- what waits then
   both : drop (t.full * 64) (xs ++ ys) ≡ drop (t.full * 64) xs ++ ys
-  both = drop_append_le (t.full * 64) xs ys (omega (arith, w.count))
+  both = drop-append-le (t.full * 64) xs ys (omega (arith, w.count))
 
   -- what is written stays
   still : out ≡ words_of t.full (xs ++ ys) ++ drop t.full o
@@ -104,12 +104,12 @@ module _ (o : List ℕ) (xs ys : List Bool) (out : List ℕ) (t : Tail) (w : Wri
     pub not_full : t.filled + n < 64
         → Written o (xs ++ ys) out (record { full = t.full; filled = t.filled + n; word = bit_or ((bits * 2 ^ t.filled) % 2 ^ 64) t.word })
     not_full h = record {
-      count = length_append xs ys ∙ omega (arith, w.count);
+      count = length-append xs ys ∙ omega (arith, w.count);
       part = h;
       words = still;
       rest =
-          let fits : length (drop (t.full * 64) (xs ++ ys)) ≤ 64 = rw (both, length_append, waiting_length) (omega arith) in
-          rw b (value ∙ mod_eq_of_lt (lt_of_lt_of_le (number_lt (drop (t.full * 64) (xs ++ ys))) (pow_mono {j = 64} fits)));
+          let fits : length (drop (t.full * 64) (xs ++ ys)) ≤ 64 = rw (both, length-append, waiting_length) (omega arith) in
+          rw b (value ∙ mod-eq_of_lt (lt_of_lt_of_le (number_lt (drop (t.full * 64) (xs ++ ys))) (pow_mono {j = 64} fits)));
     }
 
     -- it is full, and what comes over waits for the next
@@ -117,20 +117,20 @@ module _ (o : List ℕ) (xs ys : List Bool) (out : List ℕ) (t : Tail) (w : Wri
         → Written o (xs ++ ys) (set out t.full (bit_or ((bits * 2 ^ t.filled) % 2 ^ 64) t.word))
         (record { full = t.full + 1; filled = t.filled + n - 64; word = bits / 2 ^ (63 - t.filled) / 2 })
     filled_up room m h = record {
-      count = length_append xs ys ∙ omega (arith, w.count);
+      count = length-append xs ys ∙ omega (arith, w.count);
       part = omega (arith, w.part);
       words =
           let waits : List Bool = drop (t.full * 64) (xs ++ ys) in
           let full = ap (λ (x : ℕ). bit_or ((x * 2 ^ t.filled) % 2 ^ 64) t.word) b ∙ value ∙ sym (number_take 64 waits) in
-          next_written o (xs ++ ys) t.full _ out still room full ∙ ap (λ (k : ℕ). words_of k (xs ++ ys) ++ drop k o) (sym (add_one t.full));
+          next_written o (xs ++ ys) t.full _ out still room full ∙ ap (λ (k : ℕ). words_of k (xs ++ ys) ++ drop k o) (sym (add-one t.full));
       rest =
           let shift : (63 - t.filled) + 1 ≡ 64 - t.filled = omega (arith, w.part) in
           let reach : length (drop (t.full * 64) xs) + (64 - t.filled) ≡ 64 = omega (arith, waiting_length, w.part) in
           let next : t.full * 64 + 64 ≡ (t.full + 1) * 64 = omega arith in
           let gone : drop ((t.full + 1) * 64) (xs ++ ys) ≡ drop (64 - t.filled) ys =
-          ap (λ (k : ℕ). drop k (xs ++ ys)) (sym next) ∙ sym (drop_drop 64 (t.full * 64) (xs ++ ys)) ∙ ap (drop 64) both
-          ∙ ap (λ (k : ℕ). drop k (drop (t.full * 64) xs ++ ys)) (sym reach) ∙ drop_append_add (drop (t.full * 64) xs) ys (64 - t.filled) in
-          ap (λ (x : ℕ). x / 2 ^ (63 - t.filled) / 2) b ∙ shr_shr (number ys) (63 - t.filled) 1 ∙ ap (λ (k : ℕ). number ys / 2 ^ k) shift
+          ap (λ (k : ℕ). drop k (xs ++ ys)) (sym next) ∙ sym (drop-drop 64 (t.full * 64) (xs ++ ys)) ∙ ap (drop 64) both
+          ∙ ap (λ (k : ℕ). drop k (drop (t.full * 64) xs ++ ys)) (sym reach) ∙ drop-append-add (drop (t.full * 64) xs) ys (64 - t.filled) in
+          ap (λ (x : ℕ). x / 2 ^ (63 - t.filled) / 2) b ∙ shr-shr (number ys) (63 - t.filled) 1 ∙ ap (λ (k : ℕ). number ys / 2 ^ k) shift
           ∙ sym (number_drop (64 - t.filled) ys) ∙ ap number (sym gone);
     }
 
@@ -148,14 +148,14 @@ module _ (ys : List Bool) (x : Leaf) (e : x ≡ leaf_of ys) where
 
   pub high_rest : length ys ≤ 128 → x.high ≡ number (drop 64 ys)
   unfolding leaf_of packed
-  high_rest h = rw e (ap number (take_all 64 (drop 64 ys) (rw (length_drop 64 ys) (omega arith))))
+  high_rest h = rw e (ap number (take_all 64 (drop 64 ys) (rw (length-drop 64 ys) (omega arith))))
 
 -- ---- one after the other
 
 pub adds_both : {ys zs : List Bool} {start middle end : List ℕ} {t m r : Tail} {n : ℕ} → Moved t n m → length ys ≡ n
     → Adds ys start t middle m → Adds zs middle m end r → Adds (ys ++ zs) start t end r
 adds_both {ys} {zs} moved e first second = λ o xs room w.
-    let both = length_append ys zs in
+    let both = length-append ys zs in
     rw (append_assoc xs ys zs) at (second o (xs ++ ys) (omega (arith, moved.count)) (first o xs (omega arith) w))
 
 -- ---- the end of the output
@@ -171,7 +171,7 @@ module _ (o : List ℕ) (xs : List Bool) (out : List ℕ) (t : Tail) (words : �
   -- what waits is written
   first_more : words ≤ length o → t.full < words → set out t.full t.word ≡ words_of (suc t.full) xs ++ drop (suc t.full) o
   first_more m h =
-      let short : length (drop (t.full * 64) xs) ≤ 64 = rw (length_drop (t.full * 64) xs) (omega (arith, w.count, w.part)) in
+      let short : length (drop (t.full * 64) xs) ≤ 64 = rw (length-drop (t.full * 64) xs) (omega (arith, w.count, w.part)) in
       next_written o xs t.full t.word out w.words (omega arith) (w.rest ∙ ap number (sym (take_all 64 (drop (t.full * 64) xs) short)))
 
   pub finished_one : words ≤ length o → t.full < words → words ≤ t.full + 1 → set out t.full t.word ≡ words_of words xs ++ drop words o
@@ -185,8 +185,8 @@ module _ (o : List ℕ) (xs : List Bool) (out : List ℕ) (t : Tail) (words : �
   unfolding words_for number
   finished_two m h k =
       let same : words ≡ suc (suc t.full) = omega (arith, w.count, w.part) in
-      let none : drop (suc t.full * 64) xs ≡ [] = drop_of_length_le xs {i = suc t.full * 64} (omega (arith, w.count, w.part)) in
-      rw (same, add_one t.full) (next_written o xs (suc t.full) 0 _ (first_more m h) (omega arith) (rw none))
+      let none : drop (suc t.full * 64) xs ≡ [] = drop_of_length-le xs {i = suc t.full * 64} (omega (arith, w.count, w.part)) in
+      rw (same, add-one t.full) (next_written o xs (suc t.full) 0 _ (first_more m h) (omega arith) (rw none))
 
 -- nothing has been taken in yet
 pub begun : (o : List ℕ) → Written o [] o (record { full = 0; filled = 0; word = 0 })

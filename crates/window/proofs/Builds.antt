@@ -4,10 +4,10 @@ use native.Mathlib.Omega.{arith}
 use borrow.Rule.Slice.PartMut.{put_mid, post_of}
 use mathlib.Core.Path.{◌≡◌, refl, sym, ap, ap₂, ◌∙◌}
 use mathlib.Core.Bool.{Bool}
-use mathlib.Core.List.{List, [], ◌∷◌, ◌++◌, append_nil}
+use mathlib.Core.List.{List, [], ◌∷◌, ◌++◌, append-nil}
 use mathlib.Core.Option.{Option, none, some}
-use lib.ListN.{length, take, drop, length_append, length_drop, drop_of_length_le}
-use lib.Seq.{length_take_le, take_at, drop_at}
+use lib.ListN.{length, take, drop, length-append, length-drop, drop_of_length-le}
+use lib.Seq.{length-take-le, take_at, drop_at}
 use Rattle.model.specs.Build as Build
 use Rattle.model.specs.Build.{leaf_count}
 use Rattle.model.specs.Limits.{most_nodes}
@@ -36,7 +36,7 @@ use Rattle.window.proofs.OneState.{counted_one, nodes_are, nodes_length, trailer
 
 module _ (words : List ℕ) (len : ℕ) (given : len ≤ 64 * length words) where
   pub built_length : length (take len (marks_of words)) ≡ len
-  built_length = length_take_le len (marks_of words) (omega (arith, marks_of_length words))
+  built_length = length-take-le len (marks_of words) (omega (arith, marks_of_length words))
 
   -- the model refuses exactly where there are too few nodes
   pub refused : (n : ℕ) → Pool.build n (take len (marks_of words)) ≡ none → n < 2 * leaf_count len - 1
@@ -100,7 +100,7 @@ module _ (ws words : List ℕ) (len : ℕ) where
 pub stands_with : (w six : List ℕ) (n : ℕ) (p : Pool) → Laid w n p → Sound n p → 1 ≤ n → n ≤ most_nodes → six ≡ trailer_of n p → Stands (w ++ six) n p
 unfolding trailer_of
 stands_with w six n p l fine least most e = record {
-  counted = record { words = length_append w six ∙ omega (arith, l.words, ap length e); some = least; most = most };
+  counted = record { words = length-append w six ∙ omega (arith, l.words, ap length e); some = least; most = most };
   nodes = rw (sym (take_at w six (n * 6) l.words)) at l;
   trailer = drop_at w six (n * 6) l.words ∙ e;
   sound = fine;
@@ -118,8 +118,8 @@ stands_in w n r p s fine least most =
 pub put_behind : (w behind six : List ℕ) (a : ℕ) → length w ≡ a → put_mid a (length (w ++ behind) - a) (w ++ behind) six ≡ w ++ six
 put_behind w behind six a e =
     let rest : post_of a (length (w ++ behind) - a) (w ++ behind) ≡ [] =
-    drop_of_length_le (drop a (w ++ behind)) {i = length (w ++ behind) - a} (omega (arith, length_drop a (w ++ behind))) in
-    ap₂ ◌++◌ (take_at w behind a e) (ap (◌++◌ six) rest ∙ append_nil six)
+    drop_of_length-le (drop a (w ++ behind)) {i = length (w ++ behind) - a} (omega (arith, length-drop a (w ++ behind))) in
+    ap₂ ◌++◌ (take_at w behind a e) (ap (◌++◌ six) rest ∙ append-nil six)
 
 -- what the tests have shown where a pool is built
 pub record Fits (ws words : List ℕ) (len n : ℕ) : Type 0 where
@@ -153,12 +153,12 @@ module _ {ws words : List ℕ} {len n : ℕ} (f : Fits ws words len n) where
     nodes_left = (left found.0 found.1).laid.words
 
     pub after_length : length (w ++ drop (n * 6) ws) ≡ n * 6 + 6
-    after_length = length_append w (drop (n * 6) ws) ∙ omega (arith, nodes_left, trailer_length ws n f.counted)
+    after_length = length-append w (drop (n * 6) ws) ∙ omega (arith, nodes_left, trailer_length ws n f.counted)
 
     pub after_trailer : length (take (length (w ++ drop (n * 6) ws) - n * 6) (drop (n * 6) (w ++ drop (n * 6) ws))) ≡ 6
     after_trailer =
-        length_take_le (length (w ++ drop (n * 6) ws) - n * 6) (drop (n * 6) (w ++ drop (n * 6) ws))
-        (omega (arith, length_drop (n * 6) (w ++ drop (n * 6) ws)))
+        length-take-le (length (w ++ drop (n * 6) ws) - n * 6) (drop (n * 6) (w ++ drop (n * 6) ws))
+        (omega (arith, length-drop (n * 6) (w ++ drop (n * 6) ws)))
         ∙ omega (arith, after_length)
 
     pub after_stands : (six : List ℕ) → six ≡ r.root ∷ len ∷ r.chain.first ∷ r.chain.count ∷ n ∷ 0 ∷ []

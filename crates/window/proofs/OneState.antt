@@ -4,8 +4,8 @@ use native.Mathlib.Omega.{arith}
 use mathlib.Core.Path.{◌≡◌, refl, sym, ap, ap₂, ◌∙◌}
 use mathlib.Core.Bool.{Bool, true, false}
 use mathlib.Core.List.{List, [], ◌∷◌, ◌++◌}
-use lib.ListN.{length, take, drop, get_or, set, length_drop}
-use lib.Seq.{length_take_le}
+use lib.ListN.{length, take, drop, get_or, set, length-drop}
+use lib.Seq.{length-take-le}
 use Rattle.model.specs.Pool.{Pool}
 use Rattle.model.specs.Sound.{Sized, Sound, Whole}
 use Rattle.model.specs.Tree as Tree
@@ -39,10 +39,10 @@ counted_one ws n m c d = omega (arith, c.words, d.words)
 
 module _ (ws : List ℕ) (n : ℕ) (c : Counted ws n) where
   pub nodes_length : length (take (n * 6) ws) ≡ n * 6
-  nodes_length = length_take_le (n * 6) ws (omega (arith, c.words))
+  nodes_length = length-take-le (n * 6) ws (omega (arith, c.words))
 
   pub trailer_length : length (drop (n * 6) ws) ≡ 6
-  trailer_length = length_drop (n * 6) ws ∙ omega (arith, c.words)
+  trailer_length = length-drop (n * 6) ws ∙ omega (arith, c.words)
 
   pub nodes_are : nodes_in (take (n * 6) ws) ≡ n
   nodes_are = nodes_in_of n (take (n * 6) ws) (omega (arith, nodes_length))

@@ -9,7 +9,7 @@ use mathlib.Core.Path.{◌≡◌, refl, sym, ap, ap₂, ◌∙◌}
 use mathlib.Core.Bool.{Bool, true, false}
 use mathlib.Core.List.{List, [], ◌∷◌, ◌++◌}
 use mathlib.Core.Option.{Option, none, some}
-use lib.ListN.{length, take, drop, get_or, take_append_drop}
+use lib.ListN.{length, take, drop, get_or, take-append-drop}
 use Rattle.model.specs.Contract.{Pinned}
 use Rattle.model.specs.Pool as Pool
 use Rattle.model.specs.Pool.{Pool}
@@ -100,8 +100,8 @@ cases ws absent damaged stands h =
 -- a pool stands in one list of words only
 pub one_layout : (ws vs : List ℕ) (n : ℕ) (p : Pool) → Stands ws n p → Stands vs n p → ws ≡ vs
 one_layout ws vs n p s t =
-    sym (take_append_drop (n * 6) ws) ∙ ap₂ ◌++◌ (laid_one s.nodes t.nodes s.sound.each) (s.trailer ∙ sym t.trailer)
-    ∙ take_append_drop (n * 6) vs
+    sym (take-append-drop (n * 6) ws) ∙ ap₂ ◌++◌ (laid_one s.nodes t.nodes s.sound.each) (s.trailer ∙ sym t.trailer)
+    ∙ take-append-drop (n * 6) vs
 
 -- ---- the calls
 

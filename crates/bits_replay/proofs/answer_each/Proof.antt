@@ -4,23 +4,23 @@
 use Prim.Native.Nat.{◌-◌}
 use mathlib.Core.Path.{◌≡◌}
 use native.Mathlib.Omega.{arith}
-use lib.ListN.{length, length_take}
+use lib.ListN.{length, length-take}
 use borrow.Author.Rules.{rules}
 use Rattle.bits_replay.proofs.answer_each.Statement.{statement}
 use Rattle.bits_replay.proofs.answer_each.Tie as tie
 
-abbrev invariant_loop : tie.invariant_loop
-invariant_loop asked count told₀ i₀ told i = length told ≡ length told₀
+abbrev invariant-loop : tie.invariant-loop
+invariant-loop asked count told₀ i₀ told i = length told ≡ length told₀
 
-abbrev decreases_loop : tie.decreases_loop
-decreases_loop asked count told₀ i₀ told i = count - i
+abbrev decreases-loop : tie.decreases-loop
+decreases-loop asked count told₀ i₀ told i = count - i
 
-returns : tie.Need_returns invariant_loop decreases_loop
-returns c = (search rules, simp length_take (omega arith))
+returns : tie.Need-returns invariant-loop decreases-loop
+returns c = (search rules, simp length-take (omega arith))
 
-pub answer_each_spec : {M : Type 1} → statement M
-answer_each_spec =
+pub answer-each-spec : {M : Type 1} → statement M
+answer-each-spec =
     tie.close
     (tie.spec
-    invariant_loop decreases_loop (λ c. search rules) (λ c. search rules) (λ c κs. search rules) (λ c. search rules) (λ c κs. tt) (λ c κs. search rules)
+    invariant-loop decreases-loop (λ c. search rules) (λ c. search rules) (λ c κs. search rules) (λ c. search rules) (λ c κs. tt) (λ c κs. search rules)
     (λ c. search rules) (λ c. search rules) (λ c. search rules) (λ c. search rules) (λ c. search rules) returns)

@@ -4,11 +4,11 @@ use borrow.Author.Rules.{rules}
 use Rattle.bits_replay.proofs.main.Statement.{statement}
 use Rattle.bits_replay.proofs.main.Tie as tie
 
-abbrev invariant_loop : tie.invariant_loop
-invariant_loop rounds₀ rounds = Unit {0}
+abbrev invariant-loop : tie.invariant-loop
+invariant-loop rounds₀ rounds = Unit {0}
 
-abbrev decreases_loop : tie.decreases_loop
-decreases_loop rounds₀ rounds = rounds
+abbrev decreases-loop : tie.decreases-loop
+decreases-loop rounds₀ rounds = rounds
 
 pub main_spec : {M : Type 1} → statement M
-main_spec = tie.close (tie.spec invariant_loop decreases_loop (λ c. tt) (λ c κs. tt) (λ c. search rules) (λ c. search rules) (λ c. tt) (λ c. tt) (λ c. tt))
+main_spec = tie.close (tie.spec invariant-loop decreases-loop (λ c. tt) (λ c κs. tt) (λ c. search rules) (λ c. search rules) (λ c. tt) (λ c. tt) (λ c. tt))

@@ -4,8 +4,8 @@ use borrow.Author.Rules.{rules}
 use Rattle.window_replay.proofs.serve_and_tell.Statement.{statement}
 use Rattle.window_replay.proofs.serve_and_tell.Tie as tie
 
-tell_requires : tie.Need_tell_requires
-tell_requires c κs =
+tell-requires : tie.Need-tell-requires
+tell-requires c κs =
     let checked = c.before.before.before.before.before.before in
     let ran = checked.before.before.before.before.before.before in
     let p = ran.before.before.before.before.before.before.requires in
@@ -19,8 +19,8 @@ tell_requires c κs =
       pool_long = omega (arith, rest.1.1);
     }
 
-pub serve_and_tell_spec : {M : Type 1} → statement M
-serve_and_tell_spec =
+pub serve-and-tell-spec : {M : Type 1} → statement M
+serve-and-tell-spec =
     tie.close
     (tie.spec
-    (λ c κs. search rules) (λ c. search rules) tell_requires (λ c. search rules) (λ c. search rules) (λ c. search rules) (λ c. search rules))
+    (λ c κs. search rules) (λ c. search rules) tell-requires (λ c. search rules) (λ c. search rules) (λ c. search rules) (λ c. search rules))

@@ -4,11 +4,11 @@ use Rattle.bits.proofs.Ones.{fits_count, counted}
 use Rattle.bits.proofs.count.ones64.Statement.{statement}
 use Rattle.bits.proofs.count.ones64.Tie as tie
 
-cast_result : tie.Need_overflow_cast_result
-cast_result c = fits_count 64 c.args.word c.ranges.word.fits (lit< tt)
+cast-result : tie.Need-overflow-cast-result
+cast-result c = fits_count 64 c.args.word c.ranges.word.fits (lit< tt)
 
-returns : tie.Need_returns
+returns : tie.Need-returns
 returns c = counted 64 c.args.word c.ranges.word.fits
 
-pub ones64_spec : {M : Type 1} → statement M
-ones64_spec = tie.close (tie.spec cast_result returns)
+pub ones64-spec : {M : Type 1} → statement M
+ones64-spec = tie.close (tie.spec cast-result returns)

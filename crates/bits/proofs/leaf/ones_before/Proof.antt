@@ -8,20 +8,20 @@ use Rattle.bits.proofs.TwoWords.{ones_low, ones_both, ones_most}
 use Rattle.bits.proofs.leaf.ones_before.Statement.{statement}
 use Rattle.bits.proofs.leaf.ones_before.Tie as tie
 
-returns : tie.Need_returns
+returns : tie.Need-returns
 unfolding bits_of
 returns c = let s = c.before.before.args in c.before.ones_below.ensures ∙ ones_low s.leaf s.end (omega arith)
 
-add_result : tie.Need_overflow_add_result
-add_result c =
+add-result : tie.Need-overflow-add-result
+add-result c =
     let s = c.before.before.before.args in
     omega (arith, ones_most s.end s.leaf.low, ones_most (s.end - 64) s.leaf.high)
 
-returns_2 : tie.Need_returns_2
+returns-2 : tie.Need-returns-2
 unfolding bits_of
-returns_2 c =
+returns-2 c =
     let s = c.before.before.before.args in
-    ap₂ (λ (x y : ℕ). x + y) c.before.before.ones_below.ensures c.ones_below2.ensures ∙ ones_both s.leaf s.end c.before.if1.false
+    ap₂ (λ (x y : ℕ). x + y) c.before.before.ones_below.ensures c.ones-below2.ensures ∙ ones_both s.leaf s.end c.before.if1.false
 
-pub ones_before_spec : {M : Type 1} → statement M
-ones_before_spec = tie.close (tie.spec (λ c κs. search rules) returns (λ c κs. search rules) add_result returns_2)
+pub ones-before-spec : {M : Type 1} → statement M
+ones-before-spec = tie.close (tie.spec (λ c κs. search rules) returns (λ c κs. search rules) add-result returns-2)

@@ -6,11 +6,11 @@ use Rattle.bits.proofs.Packed.{one_shl}
 use Rattle.bits.proofs.leaf.word_below.Statement.{statement}
 use Rattle.bits.proofs.leaf.word_below.Tie as tie
 
-sub_result : tie.Need_overflow_sub_result
-sub_result c = rw (one_shl c.args.n c.requires) (pow_pos c.args.n)
+sub-result : tie.Need-overflow-sub-result
+sub-result c = rw (one_shl c.args.n c.requires) (pow_pos c.args.n)
 
-returns : tie.Need_returns
+returns : tie.Need-returns
 returns c = rw (one_shl c.args.n c.requires) (and_mask c.args.word c.args.n)
 
-pub word_below_spec : {M : Type 1} → statement M
-word_below_spec = tie.close (tie.spec (λ c. search rules) sub_result returns)
+pub word-below-spec : {M : Type 1} → statement M
+word-below-spec = tie.close (tie.spec (λ c. search rules) sub-result returns)

@@ -4,10 +4,10 @@ use Rattle.bits.proofs.Packed.{joined_word}
 use Rattle.bits.proofs.leaf.word_join.Statement.{statement}
 use Rattle.bits.proofs.leaf.word_join.Tie as tie
 
-returns : tie.Need_returns
+returns : tie.Need-returns
 returns c =
     let s = c.before in
     rw c.word_below.ensures (joined_word s.args.len s.requires s.args.word s.args.other)
 
-pub word_join_spec : {M : Type 1} → statement M
-word_join_spec = tie.close (tie.spec (λ c. search rules) (λ c κs. search rules) returns)
+pub word-join-spec : {M : Type 1} → statement M
+word-join-spec = tie.close (tie.spec (λ c. search rules) (λ c κs. search rules) returns)

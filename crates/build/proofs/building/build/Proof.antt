@@ -6,7 +6,7 @@ use mathlib.Core.Path.{◌≡◌, sym, ap, ◌∙◌}
 use mathlib.Core.Bool.{Bool}
 use mathlib.Core.List.{List, reverse}
 use lib.ListN.{length, take}
-use lib.Seq.{length_take_le}
+use lib.Seq.{length-take-le}
 use Rattle.model.specs.Build.{built_leaves, leaf_count}
 use Rattle.model.specs.Word.{marks_of}
 use Rattle.model.proofs.Rounds.{leaf_count_some}
@@ -16,13 +16,13 @@ use Rattle.build.proofs.WholeBuild.{stands}
 use Rattle.build.proofs.building.build.Statement.{statement}
 use Rattle.build.proofs.building.build.Tie as tie
 
-rounds_requires : tie.Need_rounds_requires
-rounds_requires c κs =
-    let leaf_count_place = c.before.before.before.before.before in
-    let start = leaf_count_place.before.before.before in
+rounds-requires : tie.Need-rounds-requires
+rounds-requires c κs =
+    let leaf-count-place = c.before.before.before.before.before in
+    let start = leaf-count-place.before.before.before in
     let a = start.args in
-    let n = leaf_count_place.leaf_count in
-    let p = c.before.before.before.put_leaves in
+    let n = leaf-count-place.leaf_count in
+    let p = c.before.before.before.put-leaves in
     let some = leaf_count_some a.length in
     let e = n.ensures in
     let size = p.ensures.kept in
@@ -37,36 +37,36 @@ rounds_requires c κs =
       },
     )
 
-sub_chain_from : tie.Need_overflow_sub_chain_from
-sub_chain_from c =
+sub-chain-from : tie.Need-overflow-sub-chain-from
+sub-chain-from c =
     let rounds = c.before.before.before in
-    let put_leaves = rounds.before.before.before.before in
-    let leaf_count_place = put_leaves.before.before in
-    let start = leaf_count_place.before.before.before in
+    let put-leaves = rounds.before.before.before.before in
+    let leaf-count-place = put-leaves.before.before in
+    let start = leaf-count-place.before.before.before in
     omega (
       arith,
       leaf_count_some
           start.args.length,
-      leaf_count_place.leaf_count.ensures,
+      leaf-count-place.leaf_count.ensures,
     )
 
-returns : tie.Need_returns
+returns : tie.Need-returns
 returns c p f =
     let nodes2 = c.before.before.before.before.before in
-    let rounds_place = nodes2.before in
-    let put_leaves_place = rounds_place.before.before.before.before in
-    let leaf_count_place = put_leaves_place.before.before in
-    let s = leaf_count_place.before.before.before in
+    let rounds-place = nodes2.before in
+    let put-leaves-place = rounds-place.before.before.before.before in
+    let leaf-count-place = put-leaves-place.before.before in
+    let s = leaf-count-place.before.before.before in
     let a = s.args in
     let room = s.requires in
-    let k : ℕ = leaf_count_place.leaf_count.result in
-    let e = leaf_count_place.leaf_count.ensures in
-    let leaves = put_leaves_place.put_leaves in
-    let root = rounds_place.rounds in
-    let chain = c.before.before.chain_from in
+    let k : ℕ = leaf-count-place.leaf_count.result in
+    let e = leaf-count-place.leaf_count.ensures in
+    let leaves = put-leaves-place.put-leaves in
+    let root = rounds-place.rounds in
+    let chain = c.before.before.chain-from in
     let xs : List Bool = take a.length (marks_of a.words.now) in
     let all : length xs ≡ a.length =
-    length_take_le a.length (marks_of a.words.now) (omega (arith, marks_of_length a.words.now, room.given)) in
+    length-take-le a.length (marks_of a.words.now) (omega (arith, marks_of_length a.words.now, room.given)) in
     let one = leaves.ensures.kept in
     let two = root.ensures.kept in
     let three = chain.ensures.kept in
@@ -79,9 +79,9 @@ returns c p f =
     (rw leaves.ensures.many at (root.ensures.done (reverse (built_leaves 0 k xs)) leaves.ensures.wait))
     (rw need at chain.ensures.below) (omega (arith, room.whole)) first many (rw (same, need) at chain.ensures.chain)
 
-pub build_spec : {M : Type 1} → statement M
-build_spec =
+pub build-spec : {M : Type 1} → statement M
+build-spec =
     tie.close
     (tie.spec
-    (λ c κs. search rules) (λ c κs. search rules) rounds_requires (λ c. search rules) sub_chain_from (λ c κs. search rules) (λ c. search rules)
+    (λ c κs. search rules) (λ c κs. search rules) rounds-requires (λ c. search rules) sub-chain-from (λ c κs. search rules) (λ c. search rules)
     returns)

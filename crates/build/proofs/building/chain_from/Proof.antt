@@ -8,17 +8,17 @@ use Rattle.build.proofs.FreeChain.{Freed, chained_from, none_freed, one_freed}
 use Rattle.build.proofs.building.chain_from.Statement.{statement}
 use Rattle.build.proofs.building.chain_from.Tie as tie
 
-abbrev invariant_loop : tie.invariant_loop
-invariant_loop nodes₀ first end n₀ nodes n = (first ≤ n) × (n ≤ end) × Freed nodes₀ nodes first n
+abbrev invariant-loop : tie.invariant-loop
+invariant-loop nodes₀ first end n₀ nodes n = (first ≤ n) × (n ≤ end) × Freed nodes₀ nodes first n
 
-abbrev decreases_loop : tie.decreases_loop
-decreases_loop nodes₀ first end n₀ nodes n = end - n
+abbrev decreases-loop : tie.decreases-loop
+decreases-loop nodes₀ first end n₀ nodes n = end - n
 
-loop_holds : tie.Need_loop_init invariant_loop decreases_loop
-loop_holds c = let s = c.before.before.before in (omega arith, omega arith, none_freed s.args.nodes.now s.args.first)
+loop-holds : tie.Need-loop-init invariant-loop decreases-loop
+loop-holds c = let s = c.before.before.before in (omega arith, omega arith, none_freed s.args.nodes.now s.args.first)
 
-loop_again : tie.Need_loop_preserved invariant_loop decreases_loop
-loop_again c =
+loop-again : tie.Need-loop-preserved invariant-loop decreases-loop
+loop-again c =
     let s = c.before.before.before.before.before in (
       omega arith,
       omega arith,
@@ -26,7 +26,7 @@ loop_again c =
           c.before.before.set_Free.ensures,
     )
 
-returns : tie.Need_returns invariant_loop decreases_loop
+returns : tie.Need-returns invariant-loop decreases-loop
 returns c =
     let s = c.before.loop in
     let a = c.before.before.before.before.before.args in
@@ -43,9 +43,9 @@ returns c =
           (λ j l h. f.free j l (omega arith));
     }
 
-pub chain_from_spec : {M : Type 1} → statement M
-chain_from_spec =
+pub chain-from-spec : {M : Type 1} → statement M
+chain-from-spec =
     tie.close
     (tie.spec
-    invariant_loop decreases_loop (λ c κs. search rules) loop_holds (λ c. search rules) (λ c κs. search rules) (λ c. search rules) (λ c. search rules) loop_again
+    invariant-loop decreases-loop (λ c κs. search rules) loop-holds (λ c. search rules) (λ c κs. search rules) (λ c. search rules) (λ c. search rules) loop-again
     (λ c. search rules) (λ c. search rules) returns)

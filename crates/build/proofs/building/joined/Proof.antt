@@ -15,16 +15,16 @@ use Rattle.build.specs.declared.building.Item.{Item}
 use Rattle.build.proofs.building.joined.Statement.{statement}
 use Rattle.build.proofs.building.joined.Tie as tie
 
-rank_all : (t : Tree) (n : ℕ) → size t ≡ n → rank true n (marks t) ≡ count true (marks t)
+rank-all : (t : Tree) (n : ℕ) → size t ≡ n → rank true n (marks t) ≡ count true (marks t)
 unfolding rank
-rank_all t n e = ap (count true) (take_all n (marks t) (omega (arith, size_marks t)))
+rank-all t n e = ap (count true) (take_all n (marks t) (omega (arith, size_marks t)))
 
-rank_requires : tie.Need_rank_requires
-rank_requires c κs =
+rank-requires : tie.Need-rank-requires
+rank-requires c κs =
     let p = c.before.before.requires in
     (p.stands.tree, p.stands.rooted, p.stands.total, omega arith)
 
-returns : tie.Need_returns
+returns : tie.Need-returns
 returns c =
     let stored = c.before.before.before.before.before in
     let counted = stored.before.before.before.before in
@@ -33,13 +33,13 @@ returns c =
     record {
       item = ap item c.above.ensures;
       stored = λ s.
-          let ones = counted.rank.ensures s.tree s.rooted s.total ∙ rank_all s.tree a.left.total s.total in
+          let ones = counted.rank.ensures s.tree s.rooted s.total ∙ rank-all s.tree a.left.total s.total in
           stored.set_fork.ensures ∙ ap (λ (k : ℕ). put a.nodes.now a.n (fork_cell (fork_over a.left a.right k))) ones;
     }
 
-pub joined_spec : {M : Type 1} → statement M
-joined_spec =
+pub joined-spec : {M : Type 1} → statement M
+joined-spec =
     tie.close
     (tie.spec
-    rank_requires (λ c. search rules) (λ c. search rules) (λ c κs. search rules) (λ c. search rules) (λ c κs. search rules)
+    rank-requires (λ c. search rules) (λ c. search rules) (λ c κs. search rules) (λ c. search rules) (λ c κs. search rules)
     (λ c. search rules) returns)

@@ -7,17 +7,17 @@ use Rattle.model.specs.Build.{leaf_count}
 use Rattle.build.proofs.building.leaf_count.Statement.{statement}
 use Rattle.build.proofs.building.leaf_count.Tie as tie
 
-some_count : (n : ℕ) → (n ≡ 0 → ⊥) → (n - 1) / 64 + 1 ≡ leaf_count n
+some-count : (n : ℕ) → (n ≡ 0 → ⊥) → (n - 1) / 64 + 1 ≡ leaf_count n
 unfolding leaf_count
-some_count zero h = absurd (omega arith)
-some_count (suc n) h = omega arith
+some-count zero h = absurd (omega arith)
+some-count (suc n) h = omega arith
 
-returns : tie.Need_returns
+returns : tie.Need-returns
 unfolding leaf_count
 returns c = rw c.if1.true
 
-returns_2 : tie.Need_returns_2
-returns_2 c = some_count c.before.args.length c.if1.false
+returns-2 : tie.Need-returns-2
+returns-2 c = some-count c.before.args.length c.if1.false
 
-pub leaf_count_spec : {M : Type 1} → statement M
-leaf_count_spec = tie.close (tie.spec returns (λ c. search rules) (λ c. search rules) returns_2)
+pub leaf-count-spec : {M : Type 1} → statement M
+leaf-count-spec = tie.close (tie.spec returns (λ c. search rules) (λ c. search rules) returns-2)

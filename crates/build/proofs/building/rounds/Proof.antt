@@ -12,28 +12,28 @@ use Rattle.build.proofs.Rounds.{InRounds, first_round, last_round, round_over}
 use Rattle.build.proofs.building.rounds.Statement.{statement}
 use Rattle.build.proofs.building.rounds.Tie as tie
 
-abbrev invariant_loop : tie.invariant_loop
-invariant_loop nodes₀ leaves next₀ nodes row next =
+abbrev invariant-loop : tie.invariant-loop
+invariant-loop nodes₀ leaves next₀ nodes row next =
     (1 ≤ row.count) × (next + row.count ≡ 2 * leaves.count) × (length nodes ≡ length nodes₀)
     × ((ts : List Tree) → Waiting nodes₀ leaves.count leaves ts
     → InRounds nodes row next (Build.rounds leaves.count leaves.count ts))
 
-abbrev decreases_loop : tie.decreases_loop
-decreases_loop nodes₀ leaves next₀ nodes row next = row.count
+abbrev decreases-loop : tie.decreases-loop
+decreases-loop nodes₀ leaves next₀ nodes row next = row.count
 
-loop_holds : tie.Need_loop_init invariant_loop decreases_loop
-loop_holds c = (omega arith, omega arith, refl, λ ts p. first_round ts p)
+loop-holds : tie.Need-loop-init invariant-loop decreases-loop
+loop-holds c = (omega arith, omega arith, refl, λ ts p. first_round ts p)
 
-round_requires : tie.Need_round_requires invariant_loop decreases_loop
-round_requires c κs =
-    let at_loop = c.before.before.before.before.before in
-    let s = at_loop.loop in
-    let p = at_loop.before.before.requires.1 in
+round-requires : tie.Need-round-requires invariant-loop decreases-loop
+round-requires c κs =
+    let at-loop = c.before.before.before.before.before in
+    let s = at-loop.loop in
+    let p = at-loop.before.before.requires.1 in
     let t = s.invariant.3 p.these p.wait in
     (omega arith, record { enough = omega arith; few = omega arith; these = t.trees; wait = t.waits })
 
-loop_again : tie.Need_loop_preserved invariant_loop decreases_loop
-loop_again c =
+loop-again : tie.Need-loop-preserved invariant-loop decreases-loop
+loop-again c =
     let there = c.before.before in
     let s = there.before.before.before.before.before.before.loop in
     let r = there.round in
@@ -45,16 +45,16 @@ loop_again c =
       λ ts p. round_over _ (omega arith) r.ensures (omega arith) (s.invariant.3 ts p),
     )
 
-returns : tie.Need_returns invariant_loop decreases_loop
+returns : tie.Need-returns invariant-loop decreases-loop
 returns c =
-    let at_loop = c.before.before.before in
-    let s = at_loop.loop in
-    let a = at_loop.before.before.args in
+    let at-loop = c.before.before.before in
+    let s = at-loop.loop in
+    let a = at-loop.before.before.args in
     let last : 2 * a.leaves.count - 1 ≡ s.next = omega arith in
     record { kept = s.invariant.2; done = λ ts p. rw last (last_round (s.invariant.3 ts p) (omega arith)) }
 
-pub rounds_spec : {M : Type 1} → statement M
-rounds_spec =
+pub rounds-spec : {M : Type 1} → statement M
+rounds-spec =
     tie.close
     (tie.spec
-    invariant_loop decreases_loop loop_holds (λ c. search rules) round_requires (λ c. search rules) (λ c. search rules) loop_again (λ c. search rules) returns)
+    invariant-loop decreases-loop loop-holds (λ c. search rules) round-requires (λ c. search rules) (λ c. search rules) loop-again (λ c. search rules) returns)

@@ -15,7 +15,7 @@ rises : (h first at : ℕ) → (h ≡ 0 → ⊥) → first + at ≡ number_at h 
 rises zero first at e = absurd (e refl)
 rises (suc h) first at e = refl
 
-returns : tie.Need_returns
+returns : tie.Need-returns
 returns c =
     let a = c.before.before.before.args in
     λ j. record {
@@ -24,8 +24,8 @@ returns c =
       height = a.row.height;
     }
 
-returns_2 : tie.Need_returns_2
-returns_2 c =
+returns-2 : tie.Need-returns-2
+returns-2 c =
     let a = c.before.before.before.args in
     λ j. record {
       node = rises a.row.height a.row.first a.at (λ e. omega arith) j;
@@ -33,5 +33,5 @@ returns_2 c =
       height = a.row.height;
     }
 
-pub waiting_spec : {M : Type 1} → statement M
-waiting_spec = tie.close (tie.spec (λ c. search rules) returns (λ c. search rules) returns_2)
+pub waiting-spec : {M : Type 1} → statement M
+waiting-spec = tie.close (tie.spec (λ c. search rules) returns (λ c. search rules) returns-2)

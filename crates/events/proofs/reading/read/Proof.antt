@@ -2,29 +2,29 @@
 use borrow.Author.Rules.{rules}
 use native.Mathlib.Omega.{arith}
 use mathlib.Core.Path.{sym}
-use lib.Seq.{length_take_le}
+use lib.Seq.{length-take-le}
 use Rattle.text.proofs.FieldByField.{nothing_is, value_is}
 use Rattle.events.proofs.FirstLine.{Begun, begun_room, FirstEnds, list_long, list_not, list_read, list_unread}
 use Rattle.events.proofs.reading.read.Statement.{statement}
 use Rattle.events.proofs.reading.read.Tie as tie
 
-returns : tie.Need_returns
+returns : tie.Need-returns
 returns c = list_long _ (omega arith)
 
-slice_aggregate_length_told : tie.Need_slice_aggregate_length_told
-slice_aggregate_length_told c =
+slice-aggregate-length-told : tie.Need-slice-aggregate-length-told
+slice-aggregate-length-told c =
     let f = c.before in
-    sym (length_take_le f.find.result f.before.before.before.before.args.text.now (omega arith))
+    sym (length-take-le f.find.result f.before.before.before.before.args.text.now (omega arith))
 
 -- the end of the first line was found
-first : (c : tie.After_find) → FirstEnds c.before.before.before.before.args.text.now c.find.result
+first : (c : tie.After-find) → FirstEnds c.before.before.before.before.args.text.now c.find.result
 first c = record { fits = omega arith; found = c.find.ensures.0 }
 
-returns_2 : tie.Need_returns_2
-returns_2 c = list_not (first c.before.before.before.before) (nothing_is c.before.before.length_told.ensures c.enum_told.given.1)
+returns-2 : tie.Need-returns-2
+returns-2 c = list_not (first c.before.before.before.before) (nothing_is c.before.before.length_told.ensures c.enum_told.given.1)
 
 -- and it tells a length
-begun : (c : tie.After_length)
+begun : (c : tie.After-length)
     → let f = c.before.before.before.before in let a = f.before.before.before.before.args in
     Begun a.text.now f.find.result c.length.given.0.0 512 a.words.now
 begun c =
@@ -36,16 +36,16 @@ begun c =
       enough = omega arith;
     }
 
-strikes_requires : tie.Need_strikes_requires
-strikes_requires c κs = let room = begun_room (begun c.before.before) in omega arith
+strikes-requires : tie.Need-strikes-requires
+strikes-requires c κs = let room = begun_room (begun c.before.before) in omega arith
 
-returns_3 : tie.Need_returns_3
-returns_3 c =
+returns-3 : tie.Need-returns-3
+returns-3 c =
     let s = c.before.before.before in
     list_read (begun s.before.before.before) _ _ s.strikes.ensures c.if2.true (omega arith)
 
-returns_4 : tie.Need_returns_4
-returns_4 c =
+returns-4 : tie.Need-returns-4
+returns-4 c =
     let s = c.before.before.before in
     list_unread (begun s.before.before.before) _ _ s.strikes.ensures c.if2.false
 
@@ -53,5 +53,5 @@ pub read_spec : {M : Type 1} → statement M
 read_spec =
     tie.close
     (tie.spec
-    returns (λ c κs. search rules) slice_aggregate_length_told (λ c κs. search rules) (λ c. search rules) (λ c. search rules) returns_2
-    (λ c. search rules) strikes_requires (λ c. search rules) returns_3 (λ c. search rules) returns_4)
+    returns (λ c κs. search rules) slice-aggregate-length-told (λ c κs. search rules) (λ c. search rules) (λ c. search rules) returns-2
+    (λ c. search rules) strikes-requires (λ c. search rules) returns-3 (λ c. search rules) returns-4)

@@ -5,11 +5,11 @@ use Rattle.events.proofs.SetMarks.{strikes_at}
 use Rattle.events.proofs.reading.strike.Statement.{statement}
 use Rattle.events.proofs.reading.strike.Tie as tie
 
-returns : tie.Need_returns
+returns : tie.Need-returns
 returns c = strikes_at _ _ _ _ (omega arith) (omega arith) c.before.requires
 
-pub strike_spec : {M : Type 1} → statement M
-strike_spec =
+pub strike-spec : {M : Type 1} → statement M
+strike-spec =
     tie.close
     (tie.spec
     (λ c. search rules) (λ c. search rules) (λ c. search rules) (λ c. search rules) (λ c. search rules) (λ c. search rules) returns)

@@ -11,42 +11,42 @@ use Rattle.grammar.proofs.Names.{From, Stretch, from_first, name_is, name_none, 
 use Rattle.grammar.proofs.fields.name_in.Statement.{statement}
 use Rattle.grammar.proofs.fields.name_in.Tie as tie
 
-abbrev invariant_loop : tie.invariant_loop
-invariant_loop field row i₀ i = (i ≤ 9) × From i field
+abbrev invariant-loop : tie.invariant-loop
+invariant-loop field row i₀ i = (i ≤ 9) × From i field
 
-abbrev decreases_loop : tie.decreases_loop
-decreases_loop field row i₀ i = 9 - i
+abbrev decreases-loop : tie.decreases-loop
+decreases-loop field row i₀ i = 9 - i
 
 -- where the name of this round stands
-here : (c : tie.In_loop invariant_loop decreases_loop) → let i = c.before.loop.i in Stretch i (get_or starts i 0) (get_or starts (i + 1) 0)
+here : (c : tie.In-loop invariant-loop decreases-loop) → let i = c.before.loop.i in Stretch i (get_or starts i 0) (get_or starts (i + 1) 0)
 here c = stretch c.before.loop.i (omega arith)
 
 -- it ends within the row
-ends : (c : tie.In_loop invariant_loop decreases_loop) → let s = c.before in get_or starts (s.loop.i + 1) 0 ≤ length s.before.before.before.args.row.now
+ends : (c : tie.In-loop invariant-loop decreases-loop) → let s = c.before in get_or starts (s.loop.i + 1) 0 ≤ length s.before.before.before.args.row.now
 ends c = let all = ap length c.before.before.before.before.requires ∙ row_length in omega (arith, (here c).last, all)
 
 -- it was compared with the field
-compared : (c : tie.After_is_word invariant_loop decreases_loop) → let s = c.before.before.before in
+compared : (c : tie.After-is-word invariant-loop decreases-loop) → let s = c.before.before.before in
     c.is_IsWord.result ≡ same s.before.before.before.args.field.now (spelled (get_or names s.loop.i Other))
 compared c =
     let s = c.before.before.before in
     let word = (here c.before.before).word in
     c.is_IsWord.ensures ∙ ap (same s.before.before.before.args.field.now) (rw s.before.before.before.requires word)
 
-returns : tie.Need_returns invariant_loop decreases_loop
+returns : tie.Need-returns invariant-loop decreases-loop
 returns c =
     let read = c.before.before in
-    c.name_at.ensures ∙ name_is read.before.before.before.loop.invariant.1 (omega arith) (compared read) c.before.if1.true
+    c.name-at.ensures ∙ name_is read.before.before.before.loop.invariant.1 (omega arith) (compared read) c.before.if1.true
 
-loop_again : tie.Need_loop_preserved invariant_loop decreases_loop
-loop_again c =
+loop-again : tie.Need-loop-preserved invariant-loop decreases-loop
+loop-again c =
     (omega arith, name_not c.before.before.before.before.loop.invariant.1 (omega arith) (compared c.before) c.if1.false)
 
-pub name_in_spec : {M : Type 1} → statement M
-name_in_spec =
+pub name-in-spec : {M : Type 1} → statement M
+name-in-spec =
     tie.close
     (tie.spec
-    invariant_loop decreases_loop
+    invariant-loop decreases-loop
     (λ c. (omega arith, from_first))
     (λ c. omega arith)
     (λ c. omega arith)
@@ -61,5 +61,5 @@ name_in_spec =
     returns
     (λ c. omega arith)
     (λ c. omega arith)
-    loop_again
+    loop-again
     (λ c. name_none c.before.loop.invariant.1 (omega arith)))

@@ -5,9 +5,9 @@ use Rattle.grammar.specs.Lines.{all_spelled, spelled}
 use Rattle.grammar.proofs.fields.name_of.Statement.{statement}
 use Rattle.grammar.proofs.fields.name_of.Tie as tie
 
-name_in_requires : tie.Need_name_in_requires
+name-in-requires : tie.Need-name-in-requires
 unfolding all_spelled spelled
-name_in_requires c κs = refl
+name-in-requires c κs = refl
 
-pub name_of_spec : {M : Type 1} → statement M
-name_of_spec = tie.close (tie.spec (λ c. search rules) name_in_requires (λ c. search rules))
+pub name-of-spec : {M : Type 1} → statement M
+name-of-spec = tie.close (tie.spec (λ c. search rules) name-in-requires (λ c. search rules))

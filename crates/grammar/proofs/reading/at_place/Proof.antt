@@ -9,20 +9,20 @@ use Rattle.grammar.proofs.Asking.{nothing_is, one_number_is, value_is}
 use Rattle.grammar.proofs.reading.at_place.Statement.{statement}
 use Rattle.grammar.proofs.reading.at_place.Tie as tie
 
-enum_told : tie.Need_enum_told
+enum_told : tie.Need-enum-told
 enum_told c = search rules
 
-returns : tie.Need_returns
+returns : tie.Need-returns
 unfolding bind
 returns c = λ ws. one_number_is c.before.before.before.before.before.args.fields.now
     (λ (i : ℕ). some (ordering (asks c.before.before.before.before.before.args.number i 0)))
     ∙ rw (value_is c.before.before.before.decimal.ensures c.before.second.given.1)
 
-returns_2 : tie.Need_returns_2
+returns-2 : tie.Need-returns-2
 unfolding bind
-returns_2 c = λ ws. one_number_is c.before.before.before.before.args.fields.now
+returns-2 c = λ ws. one_number_is c.before.before.before.before.args.fields.now
     (λ (i : ℕ). some (ordering (asks c.before.before.before.before.args.number i 0)))
     ∙ rw (nothing_is c.before.before.decimal.ensures c.enum_told.given.1)
 
-pub at_place_spec : {M : Type 1} → statement M
-at_place_spec = tie.close (tie.spec (λ c κs. search rules) (λ c. search rules) enum_told returns returns_2)
+pub at-place-spec : {M : Type 1} → statement M
+at-place-spec = tie.close (tie.spec (λ c κs. search rules) (λ c. search rules) enum_told returns returns-2)

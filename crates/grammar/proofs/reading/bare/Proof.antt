@@ -27,19 +27,19 @@ no_line Gap h = absurd (miss (0 ∷ 1 ∷ 2 ∷ 3 ∷ 4 ∷ 5 ∷ 6 ∷ 9 ∷ []
 no_line Dump h = absurd (miss (0 ∷ 1 ∷ 2 ∷ 3 ∷ 4 ∷ 5 ∷ 6 ∷ 9 ∷ []) 8 tt h)
 no_line Other h = refl
 
-enum_told : tie.Need_enum_told
+enum_told : tie.Need-enum-told
 enum_told c = search rules
 
-returns : tie.Need_returns
+returns : tie.Need-returns
 unfolding line_of no_field asks with_zero
 returns c = λ ws. rw c.enum_told.given.1
 
-returns_2 : tie.Need_returns_2
+returns-2 : tie.Need-returns-2
 unfolding line_of no_field
-returns_2 c = λ ws. rw c.enum_told2.given.1
+returns-2 c = λ ws. rw c.enum-told2.given.1
 
-returns_3 : tie.Need_returns_3
-returns_3 c = λ ws. no_line c.before.args.name c.match.keys3
+returns-3 : tie.Need-returns-3
+returns-3 c = λ ws. no_line c.before.args.name c.match.keys3
 
 pub bare_spec : {M : Type 1} → statement M
-bare_spec = tie.close (tie.spec enum_told (λ c. search rules) returns returns_2 returns_3)
+bare_spec = tie.close (tie.spec enum_told (λ c. search rules) returns returns-2 returns-3)

@@ -8,23 +8,23 @@ use Rattle.grammar.specs.declared.fields.Pair.{Pair}
 use Rattle.grammar.proofs.reading.bit_and_place.Statement.{statement}
 use Rattle.grammar.proofs.reading.bit_and_place.Tie as tie
 
-enum_told : tie.Need_enum_told
+enum_told : tie.Need-enum-told
 enum_told c = search rules
 
-returns : tie.Need_returns
+returns : tie.Need-returns
 returns c =
-    let two_decimals_place = c.before.before.before.before in
-    let start = two_decimals_place.before.before in
+    let two-decimals-place = c.before.before.before.before in
+    let start = two-decimals-place.before.before in
     let ask : ℕ → ℕ → Option Wanted = λ (b i : ℕ). order_with b
     (asks_with start.args.number i) in
-    λ ws. rw (two_decimals_place.two_decimals.ensures ask ∙ ap (λ (p : Pair). given p ask) c.before.before.two.given.1)
+    λ ws. rw (two-decimals-place.two-decimals.ensures ask ∙ ap (λ (p : Pair). given p ask) c.before.before.two.given.1)
     (c.with_bit.ensures ws)
 
-returns_2 : tie.Need_returns_2
-returns_2 c = let ask : ℕ → ℕ → Option Wanted = λ (b i : ℕ). order_with b (asks_with c.before.before.before.before.args.number i) in
-    λ ws. c.before.before.two_decimals.ensures ask ∙ ap (λ (p : Pair). given p ask) c.enum_told.given.1
+returns-2 : tie.Need-returns-2
+returns-2 c = let ask : ℕ → ℕ → Option Wanted = λ (b i : ℕ). order_with b (asks_with c.before.before.before.before.args.number i) in
+    λ ws. c.before.before.two-decimals.ensures ask ∙ ap (λ (p : Pair). given p ask) c.enum_told.given.1
 
-pub bit_and_place_spec : {M : Type 1} → statement M
-bit_and_place_spec =
+pub bit-and-place-spec : {M : Type 1} → statement M
+bit-and-place-spec =
     tie.close
-    (tie.spec (λ c κs. search rules) (λ c. search rules) (λ c κs. search rules) enum_told returns returns_2)
+    (tie.spec (λ c κs. search rules) (λ c. search rules) (λ c κs. search rules) enum_told returns returns-2)

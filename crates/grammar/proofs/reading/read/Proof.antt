@@ -2,37 +2,37 @@
 use borrow.Author.Rules.{rules}
 use native.Mathlib.Omega.{arith}
 use mathlib.Core.Path.{sym}
-use lib.Seq.{length_take_le}
+use lib.Seq.{length-take-le}
 use Rattle.grammar.specs.Lines.{Reads}
 use Rattle.grammar.proofs.Asking.{Cut, wanted_alone, wanted_more}
 use Rattle.grammar.proofs.reading.read.Statement.{statement}
 use Rattle.grammar.proofs.reading.read.Tie as tie
 
 -- where the first field ends
-cut : (c : tie.After_field_end) → Cut c.before.before.before.args.line.now c.field_end.result
-cut c = record { here = c.field_end.ensures.0 }
+cut : (c : tie.After-field-end) → Cut c.before.before.before.args.line.now c.field-end.result
+cut c = record { here = c.field-end.ensures.0 }
 
-slice_aggregate_name_of : tie.Need_slice_aggregate_name_of
-slice_aggregate_name_of c = sym (length_take_le c.before.field_end.result c.before.before.before.before.args.line.now (omega arith))
+slice-aggregate-name-of : tie.Need-slice-aggregate-name-of
+slice-aggregate-name-of c = sym (length-take-le c.before.field-end.result c.before.before.before.before.args.line.now (omega arith))
 
-returns : tie.Need_returns
+returns : tie.Need-returns
 unfolding Reads
 returns c = rw (wanted_alone (cut c.before.before.before.before) (omega arith), ← c.before.before.name_of.ensures) (c.bare.ensures _)
 
-returns_2 : tie.Need_returns_2
+returns-2 : tie.Need-returns-2
 unfolding Reads
-returns_2 c =
+returns-2 c =
     let else1 = c.before.before.before.before.before in
-    let name_of_place = else1.before in
-    let field_end = name_of_place.before.before in
+    let name-of-place = else1.before in
+    let field-end = name-of-place.before.before in
     rw (
-      wanted_more (cut field_end) (omega arith),
-      ← name_of_place.name_of.ensures,
-    ) c.before.before.with_fields.ensures
+      wanted_more (cut field-end) (omega arith),
+      ← name-of-place.name_of.ensures,
+    ) c.before.before.with-fields.ensures
 
 pub read_spec : {M : Type 1} → statement M
 read_spec =
     tie.close
     (tie.spec
-    (λ c κs. search rules) slice_aggregate_name_of (λ c κs. search rules) (λ c κs. search rules) returns (λ c. search rules) (λ c. search rules)
-    (λ c. search rules) (λ c. search rules) (λ c κs. search rules) (λ c. search rules) returns_2)
+    (λ c κs. search rules) slice-aggregate-name-of (λ c κs. search rules) (λ c κs. search rules) returns (λ c. search rules) (λ c. search rules)
+    (λ c. search rules) (λ c. search rules) (λ c κs. search rules) (λ c. search rules) returns-2)

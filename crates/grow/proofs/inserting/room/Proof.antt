@@ -6,23 +6,23 @@ use Rattle.grow.proofs.Asking.{room_given, room_in_leaf}
 use Rattle.grow.proofs.inserting.room.Statement.{statement}
 use Rattle.grow.proofs.inserting.room.Tie as tie
 
-returns : tie.Need_returns
+returns : tie.Need-returns
 returns c = λ b. room_given _ c.before.before.args.index b.pool c.if1.true
 
-leaf_size_requires : tie.Need_leaf_size_requires
-leaf_size_requires c κs = let b = c.before.before.requires in (b.pool.tree, b.rooted, b.total_is, b.within)
+leaf-size-requires : tie.Need-leaf-size-requires
+leaf-size-requires c κs = let b = c.before.before.requires in (b.pool.tree, b.rooted, b.total_is, b.within)
 
-add_result : tie.Need_overflow_add_result
-add_result c =
+add-result : tie.Need-overflow-add-result
+add-result c =
     let start = c.before.before.before in
     let b = start.requires in
     let told = c.leaf_size.ensures b.pool.tree b.rooted b.total_is b.within in
     omega (arith, told, leaf_at_most 0 start.args.index b.pool.tree b.rooted.sized)
 
-returns_2 : tie.Need_returns_2
-returns_2 c = λ b.
+returns-2 : tie.Need-returns-2
+returns-2 c = λ b.
     room_in_leaf _ c.before.before.before.args.index _ b.pool c.before.if1.false
     (c.leaf_size.ensures b.pool.tree b.rooted b.total_is b.within)
 
-pub room_spec : {M : Type 1} → statement M
-room_spec = tie.close (tie.spec returns leaf_size_requires add_result returns_2)
+pub room-spec : {M : Type 1} → statement M
+room-spec = tie.close (tie.spec returns leaf-size-requires add-result returns-2)

@@ -27,7 +27,7 @@ record Stood (ws : List ℕ) (n : ℕ) (t : Trailer) : Type 0 where
   pub rooted : Rooted (take (n * 6) ws) t.root 12 pool.tree
   pub few : size pool.tree ≤ 65024
 
-stood : (c : tie.After_known_told) → Stood c.before.before.before.before.before.before.before.before.args.pool.now c.before.before.before.before.before.nodes_of.result c.before.trailer.given.0.0
+stood : (c : tie.After-known-told) → Stood c.before.before.before.before.before.before.before.before.args.pool.now c.before.before.before.before.before.nodes_of.result c.before.trailer.given.0.0
 stood c =
     let ws = c.before.before.before.before.before.before.before.before.args.pool.now in
     let n = c.before.before.before.before.before.nodes_of.result in
@@ -40,52 +40,52 @@ stood c =
       few = few_marks n j.0 j.1.sound j.1.counted.most;
     }
 
-returns : tie.Need_returns
+returns : tie.Need-returns
 returns c = rw c.refused.ensures (no_written _ _ _ (c.before.before.nodes_of.ensures.no c.before.if1.true))
 
-judged_requires : tie.Need_judged_requires
-judged_requires c κs = c.before.nodes_of.ensures.yes (omega (arith, c.if1.false))
+judged-requires : tie.Need-judged-requires
+judged-requires c κs = c.before.nodes_of.ensures.yes (omega (arith, c.if1.false))
 
-returns_2 : tie.Need_returns_2
-returns_2 c =
+returns-2 : tie.Need-returns-2
+returns-2 c =
     let s = stood c.before.before in
     rw c.refused2.ensures (short_written _ _ _ _ s.pool s.stands c.before.if2.true)
 
-mul_end : tie.Need_overflow_mul_end
-mul_end c = let s = stood c.before in omega (arith, s.stands.counted.most)
+mul-end : tie.Need-overflow-mul-end
+mul-end c = let s = stood c.before in omega (arith, s.stands.counted.most)
 
-slice_aggregate_write : tie.Need_slice_aggregate_write
-slice_aggregate_write c = let s = stood c.before.before in sym (nodes_length _ _ s.stands.counted)
+slice-aggregate-write : tie.Need-slice-aggregate-write
+slice-aggregate-write c = let s = stood c.before.before in sym (nodes_length _ _ s.stands.counted)
 
-write_requires : tie.Need_write_requires
-write_requires c κs =
+write-requires : tie.Need-write-requires
+write-requires c κs =
     let s = stood c.before.before.before in
     (tree_at s.pool.tree s.rooted s.total, omega (arith, s.few, s.total), c.before.before.if2.false)
 
 -- the page that was written
-add_t21 : tie.Need_overflow_add_t21
-add_t21 c =
+add-t21 : tie.Need-overflow-add-t21
+add-t21 c =
     let s = stood c.before.before.before.before.before.before.before in
     let held = c.before.before.before.write.ensures (tree_at s.pool.tree s.rooted s.total) in
     let xs = marks s.pool.tree in
     let few : length (list_lines xs) ≤ suc (size s.pool.tree) = omega (arith, list_count xs, size_marks s.pool.tree) in
     omega (arith, held.lines, next_fits (length c.before.before.before.before.before.before.before.before.before.before.before.before.before.before.before.args.out.now) c.before.before.before.before.before.before.before.before.before.before.before.before.before.before.before.args.line (list_lines xs) c.before.before.before.before.before.before.before.before.before.before.before.before.before.before.before.ranges.line.fits (omega (arith, few, s.few)))
 
-returns_3 : tie.Need_returns_3
-returns_3 c =
+returns-3 : tie.Need-returns-3
+returns-3 c =
     let s = stood c.before.before.before.before.before.before.before in
     let held = c.before.before.before.write.ensures (tree_at s.pool.tree s.rooted s.total) in
     page_written _ _ _ _ s.pool s.stands _ _ _ c.before.before.before.before.before.before.if2.false held.end held.lines held.bytes
 
-returns_4 : tie.Need_returns_4
-returns_4 c =
+returns-4 : tie.Need-returns-4
+returns-4 c =
     let n = c.before.before.before.before.before.nodes_of in
     rw c.refused3.ensures
     (damaged_written _ _ _ n.result (n.ensures.yes (omega (arith, c.before.before.before.before.if1.false))) (rw c.before.enum_told.given.1 at c.before.before.before.judged.ensures))
 
-pub write_list_spec : {M : Type 1} → statement M
-write_list_spec =
+pub write-list-spec : {M : Type 1} → statement M
+write-list-spec =
     tie.close
     (tie.spec
-    (λ c κs. search rules) (λ c κs. search rules) returns judged_requires (λ c. search rules) (λ c κs. search rules) returns_2 mul_end
-    slice_aggregate_write write_requires add_t21 (λ c. search rules) (λ c κs. search rules) (λ c. search rules) returns_3 returns_4)
+    (λ c κs. search rules) (λ c κs. search rules) returns judged-requires (λ c. search rules) (λ c κs. search rules) returns-2 mul-end
+    slice-aggregate-write write-requires add-t21 (λ c. search rules) (λ c κs. search rules) (λ c. search rules) returns-3 returns-4)

@@ -10,20 +10,20 @@ use Rattle.page.proofs.Visited.{page_held}
 use Rattle.page.proofs.writing.write.Statement.{statement}
 use Rattle.page.proofs.writing.write.Tie as tie
 
-add_tree_requires : tie.Need_add_tree_requires
-add_tree_requires c κs =
+add-tree-requires : tie.Need-add-tree-requires
+add-tree-requires c κs =
     let first = c.before.before.before in
     let s = first.before.before.before.before.requires.0 in
     let few = first.before.before.before.before.requires.1 in
     ((s.tree, s.rooted, omega (arith, few, s.total)), rw first.begin.ensures (line_kept _ _ (start_kept _ _)))
 
-returns : tie.Need_returns
+returns : tie.Need-returns
 returns c = λ s.
     let added = c.before.before in
     let first = added.before.before.before.before in
     page_held _ _ (marks s.tree) (sym s.total ∙ size_marks s.tree)
-    (added.add_tree.ensures s.tree s.rooted
+    (added.add-tree.ensures s.tree s.rooted
     ∙ ap (λ (v : Sheet). all_added v (strike_lines 0 (marks s.tree))) first.begin.ensures)
 
 pub write_spec : {M : Type 1} → statement M
-write_spec = tie.close (tie.spec (λ c κs. search rules) add_tree_requires (λ c. search rules) returns)
+write_spec = tie.close (tie.spec (λ c κs. search rules) add-tree-requires (λ c. search rules) returns)

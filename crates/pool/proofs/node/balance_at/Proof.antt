@@ -7,14 +7,14 @@ use Rattle.pool.proofs.Cells.{a_balance, tree_node_cell, tree_node_in}
 use Rattle.pool.proofs.node.balance_at.Statement.{statement}
 use Rattle.pool.proofs.node.balance_at.Tie as tie
 
-cell_at_requires : tie.Need_cell_at_requires
-cell_at_requires c κs = tree_node_in c.before.args.nodes.now c.before.args.n c.before.requires
+cell-at-requires : tie.Need-cell-at-requires
+cell-at-requires c κs = tree_node_in c.before.args.nodes.now c.before.args.n c.before.requires
 
-returns : tie.Need_returns
+returns : tie.Need-returns
 returns c =
     let s = c.before.before in
     let w = s.args.nodes.now in
     ap (λ (x : Cell). x.sixth) (c.cell_at.ensures ∙ tree_node_cell w s.args.n s.requires) ∙ a_balance (node_at w s.args.n) s.requires
 
-pub balance_at_spec : {M : Type 1} → statement M
-balance_at_spec = tie.close (tie.spec cell_at_requires returns)
+pub balance-at-spec : {M : Type 1} → statement M
+balance-at-spec = tie.close (tie.spec cell-at-requires returns)

@@ -3,5 +3,5 @@ use borrow.Author.Rules.{rules}
 use Rattle.pool.proofs.node.free_of.Statement.{statement}
 use Rattle.pool.proofs.node.free_of.Tie as tie
 
-pub free_of_spec : {M : Type 1} → statement M
-free_of_spec = tie.close (tie.spec (λ c κs. search rules) (λ c κs. search rules) (λ c κs. search rules) (λ c κs. search rules) (λ c. cc))
+pub free-of-spec : {M : Type 1} → statement M
+free-of-spec = tie.close (tie.spec (λ c κs. search rules) (λ c κs. search rules) (λ c κs. search rules) (λ c κs. search rules) (λ c. cc))

@@ -3,5 +3,5 @@ use borrow.Author.Rules.{rules}
 use Rattle.pool.proofs.node.leaf_of.Statement.{statement}
 use Rattle.pool.proofs.node.leaf_of.Tie as tie
 
-pub leaf_of_spec : {M : Type 1} → statement M
-leaf_of_spec = tie.close (tie.spec (λ c κs. search rules) (λ c κs. search rules) (λ c κs. search rules) (λ c κs. search rules) (λ c. cc))
+pub leaf-of-spec : {M : Type 1} → statement M
+leaf-of-spec = tie.close (tie.spec (λ c κs. search rules) (λ c κs. search rules) (λ c κs. search rules) (λ c κs. search rules) (λ c. cc))

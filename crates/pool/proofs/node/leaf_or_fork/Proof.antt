@@ -8,31 +8,31 @@ use Rattle.pool.proofs.Cells.{cell_of, a_fork, a_leaf, of_tree, tree_node_cell, 
 use Rattle.pool.proofs.node.leaf_or_fork.Statement.{statement}
 use Rattle.pool.proofs.node.leaf_or_fork.Tie as tie
 
-cell_at_requires : tie.Need_cell_at_requires
-cell_at_requires c κs =
+cell-at-requires : tie.Need-cell-at-requires
+cell-at-requires c κs =
     let s = c.before in
     let w = s.args.nodes.now in
     tree_node_in w s.args.n (of_tree (node_at w s.args.n) s.requires)
 
 -- the words that were read are those of the node
-words : (c : tie.After_cell_at) → let s = c.before.before in c.cell_at.result ≡ cell_of (node_at s.args.nodes.now s.args.n)
+words : (c : tie.After-cell-at) → let s = c.before.before in c.cell_at.result ≡ cell_of (node_at s.args.nodes.now s.args.n)
 words c =
     let s = c.before.before in
     let w = s.args.nodes.now in
     c.cell_at.ensures ∙ tree_node_cell w s.args.n (of_tree (node_at w s.args.n) s.requires)
 
-returns : tie.Need_returns
+returns : tie.Need-returns
 returns c =
     let read = c.before.before.before in
     let s = read.before.before in
     ap leaf c.leaf_in.ensures ∙ a_leaf read.cell_at.result (node_at s.args.nodes.now s.args.n) s.requires (words read)
     c.before.if1.true
 
-returns_2 : tie.Need_returns_2
-returns_2 c =
+returns-2 : tie.Need-returns-2
+returns-2 c =
     let read = c.before.before.before in
     let s = read.before.before in
     ap fork c.fork_in.ensures ∙ a_fork read.cell_at.result (node_at s.args.nodes.now s.args.n) s.requires (words read) (omega arith)
 
-pub leaf_or_fork_spec : {M : Type 1} → statement M
-leaf_or_fork_spec = tie.close (tie.spec cell_at_requires (λ c κs. search rules) returns (λ c κs. search rules) returns_2)
+pub leaf-or-fork-spec : {M : Type 1} → statement M
+leaf-or-fork-spec = tie.close (tie.spec cell-at-requires (λ c κs. search rules) returns (λ c κs. search rules) returns-2)

@@ -14,19 +14,19 @@ no_kind (suc zero) x p q r = absurd (q refl)
 no_kind (suc (suc zero)) x p q r = absurd (r refl)
 no_kind (suc (suc (suc k))) x p q r = refl
 
-returns : tie.Need_returns
-returns c = rw (node_of, c.before.match.keys1) c.Free_of.ensures
+returns : tie.Need-returns
+returns c = rw (node_of, c.before.match.keys1) c.Free-of.ensures
 
-returns_2 : tie.Need_returns_2
-returns_2 c = rw (node_of, c.before.match.keys2) c.leaf_of.ensures
+returns-2 : tie.Need-returns-2
+returns-2 c = rw (node_of, c.before.match.keys2) c.leaf_of.ensures
 
-returns_3 : tie.Need_returns_3
-returns_3 c = rw (node_of, c.before.match.keys3) (ap Fork c.fork_in.ensures)
+returns-3 : tie.Need-returns-3
+returns-3 c = rw (node_of, c.before.match.keys3) (ap Fork c.fork_in.ensures)
 
-returns_4 : tie.Need_returns_4
-returns_4 c =
+returns-4 : tie.Need-returns-4
+returns-4 c =
     let x = c.before.args.cell in
     no_kind x.kind x c.match.rest.0.0.1 c.match.rest.0.1 c.match.rest.1
 
-pub node_of_spec : {M : Type 1} → statement M
-node_of_spec = tie.close (tie.spec (λ c κs. search rules) (λ c κs. search rules) (λ c κs. search rules) returns returns_2 returns_3 returns_4)
+pub node-of-spec : {M : Type 1} → statement M
+node-of-spec = tie.close (tie.spec (λ c κs. search rules) (λ c κs. search rules) (λ c κs. search rules) returns returns-2 returns-3 returns-4)

@@ -2,7 +2,7 @@
 use Prim.Native.Nat.{◌<◌}
 use native.Mathlib.Omega.{arith}
 use borrow.Author.Rules.{rules}
-use lib.ListN.{length_set}
+use lib.ListN.{length-set}
 use Rattle.pool.specs.Node.{nodes_in}
 use Rattle.pool.proofs.Cells.{fork_says, put_left}
 use Rattle.pool.proofs.node.set_left.Statement.{statement}
@@ -11,15 +11,15 @@ use Rattle.pool.proofs.node.set_left.Tie as tie
 there : (c : tie.Start) → c.args.n < nodes_in c.args.nodes.now
 there c = (fork_says c.args.nodes.now c.args.n c.requires.0 c.requires.1).0
 
-returns : tie.Need_returns
+returns : tie.Need-returns
 returns c = λ f e. put_left c.args.nodes.now c.args.n f c.args.total c.args.ones e
 
-pub set_left_spec : {M : Type 1} → statement M
-set_left_spec =
+pub set-left-spec : {M : Type 1} → statement M
+set-left-spec =
     tie.close
     (tie.spec
     (λ c. let h = there c in search rules)
     (λ c. let h = there c in search rules) (λ c. let h = there c in search rules) (λ c. let h = there c in search rules)
     (λ c. let h = there c in search rules) (λ c. let h = there c in search rules)
-    (λ c. let h = there c in simp length_set (omega arith))
+    (λ c. let h = there c in simp length-set (omega arith))
     (λ c. search rules) returns)

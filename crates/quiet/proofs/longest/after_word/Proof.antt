@@ -10,82 +10,82 @@ use Rattle.quiet.proofs.Passed.{above, gap, run, run_some, strike_since, word_qu
 use Rattle.quiet.proofs.longest.after_word.Statement.{statement}
 use Rattle.quiet.proofs.longest.after_word.Tie as tie
 
-abbrev invariant_loop : tie.invariant_loop
-invariant_loop word length now₀ rest₀ left₀ now rest left =
+abbrev invariant-loop : tie.invariant-loop
+invariant-loop word length now₀ rest₀ left₀ now rest left =
     (left ≤ 64) × (now.since + left < 2 ^ 64) × (rest < 2 ^ 64) × (watched now (bits left rest) ≡ watched now₀ (bits length word))
 
-abbrev decreases_loop : tie.decreases_loop
-decreases_loop word length now₀ rest₀ left₀ now rest left = left
+abbrev decreases-loop : tie.decreases-loop
+decreases-loop word length now₀ rest₀ left₀ now rest left = left
 
-loop_holds : tie.Need_loop_init invariant_loop decreases_loop
-loop_holds c = (c.requires.0, c.requires.1, c.ranges.word.fits, refl)
+loop-holds : tie.Need-loop-init invariant-loop decreases-loop
+loop-holds c = (c.requires.0, c.requires.1, c.ranges.word.fits, refl)
 
-cast_quiet : tie.Need_overflow_cast_quiet invariant_loop decreases_loop
-cast_quiet c = omega (arith, trailing_le 64 c.loop.rest)
+cast-quiet : tie.Need-overflow-cast-quiet invariant-loop decreases-loop
+cast-quiet c = omega (arith, trailing_le 64 c.loop.rest)
 
-add_t12 : tie.Need_overflow_add_t12 invariant_loop decreases_loop
-add_t12 c = omega arith
+add-t12 : tie.Need-overflow-add-t12 invariant-loop decreases-loop
+add-t12 c = omega arith
 
-returns : tie.Need_returns invariant_loop decreases_loop
+returns : tie.Need-returns invariant-loop decreases-loop
 returns c =
     let l = c.before.before.loop in
     word_quiet l.now l.left l.rest l.invariant.0 c.before.if1.true ∙ l.invariant.3
 
-after_strike_requires : tie.Need_after_strike_requires invariant_loop decreases_loop
-after_strike_requires c κs = omega arith
+after-strike-requires : tie.Need-after-strike-requires invariant-loop decreases-loop
+after-strike-requires c κs = omega arith
 
-shr_high : tie.Need_overflow_shr_high invariant_loop decreases_loop
+shr_high : tie.Need-overflow-shr-high invariant-loop decreases-loop
 shr_high c = omega arith
 
-sub_left : tie.Need_overflow_sub_left invariant_loop decreases_loop
-sub_left c = omega arith
+sub-left : tie.Need-overflow-sub-left invariant-loop decreases-loop
+sub-left c = omega arith
 
-cast_run : tie.Need_overflow_cast_run invariant_loop decreases_loop
-cast_run c = omega (arith, trailing_le 64 (18446744073709551615 - above c.before.before.loop.rest))
+cast-run : tie.Need-overflow-cast-run invariant-loop decreases-loop
+cast-run c = omega (arith, trailing_le 64 (18446744073709551615 - above c.before.before.loop.rest))
 
-returns_2 : tie.Need_returns_2 invariant_loop decreases_loop
-returns_2 c =
+returns-2 : tie.Need-returns-2 invariant-loop decreases-loop
+returns-2 c =
     let l = c.before.before.before.loop in
     let more = c.before.before.if1.false in
-    c.before.after_strike.ensures ∙ word_struck l.now l.left l.rest l.invariant.0 l.invariant.2 more c.if2.true ∙ l.invariant.3
+    c.before.after-strike.ensures ∙ word_struck l.now l.left l.rest l.invariant.0 l.invariant.2 more c.if2.true ∙ l.invariant.3
 
-shr_rest : tie.Need_overflow_shr_rest invariant_loop decreases_loop
-shr_rest c = omega arith
+shr-rest : tie.Need-overflow-shr-rest invariant-loop decreases-loop
+shr-rest c = omega arith
 
-sub_left_2 : tie.Need_overflow_sub_left_2 invariant_loop decreases_loop
-sub_left_2 c = omega arith
+sub-left-2 : tie.Need-overflow-sub-left-2 invariant-loop decreases-loop
+sub-left-2 c = omega arith
 
-loop_less : tie.Need_loop_smaller invariant_loop decreases_loop
-loop_less c =
+loop-less : tie.Need-loop-smaller invariant-loop decreases-loop
+loop-less c =
     let l = c.before.before.before.loop in
     omega (arith, run_some l.now l.left l.rest l.invariant.0 l.invariant.2 c.before.before.if1.false)
 
-loop_again : tie.Need_loop_preserved invariant_loop decreases_loop
-loop_again c =
+loop-again : tie.Need-loop-preserved invariant-loop decreases-loop
+loop-again c =
     let l = c.before.before.before.loop in
-    let e = c.before.after_strike.ensures in (
+    let e = c.before.after-strike.ensures in (
       omega arith,
       rw (e, strike_since (later (gap l.rest) l.now)) (omega arith),
       omega (arith, shr_le l.rest (gap l.rest), shr_le (above l.rest) (run l.rest)),
       rw e (word_strikes l.now l.left l.rest l.invariant.0 l.invariant.2 c.before.before.if1.false c.if2.false ∙ l.invariant.3),
     )
 
-pub after_word_spec : {M : Type 1} → statement M
-after_word_spec =
+pub after-word-spec : {M : Type 1} → statement M
+after-word-spec =
     tie.close
     (tie.spec
-    invariant_loop
-    decreases_loop
-    loop_holds
-    cast_quiet
-    add_t12
+    invariant-loop
+    decreases-loop
+    loop-holds
+    cast-quiet
+    add-t12
     returns
-    after_strike_requires
+    after-strike-requires
     shr_high
-    sub_left
-    cast_run
-    returns_2
-    shr_rest
-    sub_left_2
-    loop_less
-    loop_again)
+    sub-left
+    cast-run
+    returns-2
+    shr-rest
+    sub-left-2
+    loop-less
+    loop-again)

@@ -9,13 +9,13 @@ use Rattle.quiet.proofs.Passed.{watched_longest}
 use Rattle.quiet.proofs.longest.longest_quiet.Statement.{statement}
 use Rattle.quiet.proofs.longest.longest_quiet.Tie as tie
 
-after_tree_requires : tie.Need_after_tree_requires
-after_tree_requires c κs =
+after-tree-requires : tie.Need-after-tree-requires
+after-tree-requires c κs =
     let p = c.before.requires in
     (tree_at p.0 p.1 p.2, omega (arith, p.2, size_bound 0 p.0 12 p.1.sized p.1.deep))
 
-returns : tie.Need_returns
-returns c = λ t h z. ap (λ (w : Watch). w.longest) (c.after_tree.ensures (tree_at t h z)) ∙ watched_longest (marks t)
+returns : tie.Need-returns
+returns c = λ t h z. ap (λ (w : Watch). w.longest) (c.after-tree.ensures (tree_at t h z)) ∙ watched_longest (marks t)
 
-pub longest_quiet_spec : {M : Type 1} → statement M
-longest_quiet_spec = tie.close (tie.spec after_tree_requires returns)
+pub longest-quiet-spec : {M : Type 1} → statement M
+longest-quiet-spec = tie.close (tie.spec after-tree-requires returns)

@@ -25,46 +25,46 @@ room : (c : tie.Else3) → let s = c.before.before.before.before.before.before.b
 room c = omega (arith, c.if3.false)
 
 -- the pool that stands
-standing : (c : tie.After_enum_told) → let e = c.before.before.before.before in
+standing : (c : tie.After-enum-told) → let e = c.before.before.before.before in
     (p : Pool) × Stands e.before.before.before.before.before.before.before.before.args.pool.now
     e.before.before.before.nodes_of.result p
 standing c = let j = rw c.enum_told.given.1 at c.before.before.judged.ensures in (j.0, j.1)
 
-returns : tie.Need_returns
+returns : tie.Need-returns
 returns c = no_ran _ _ _ (c.before.nodes_of.ensures.no c.if1.true)
 
-returns_2 : tie.Need_returns_2
-returns_2 c = part_ran _ _ _ _ (counted c.before) (λ e. c.if2.true (omega arith))
+returns-2 : tie.Need-returns-2
+returns-2 c = part_ran _ _ _ _ (counted c.before) (λ e. c.if2.true (omega arith))
 
-returns_3 : tie.Need_returns_3
-returns_3 c = short_ran _ _ _ _ (counted c.before.before) (whole c.before) (omega (arith, c.if3.true))
+returns-3 : tie.Need-returns-3
+returns-3 c = short_ran _ _ _ _ (counted c.before.before) (whole c.before) (omega (arith, c.if3.true))
 
-judged_requires : tie.Need_judged_requires
-judged_requires c κs = counted c.before.before.before
+judged-requires : tie.Need-judged-requires
+judged-requires c κs = counted c.before.before.before
 
-serve_all_requires : tie.Need_serve_all_requires
-serve_all_requires c κs =
+serve-all-requires : tie.Need-serve-all-requires
+serve-all-requires c κs =
     let judged = c.before.before.before.before in
     let e = judged.before.before in
     let p = standing c.before.before in
     (p.0, p.1, omega (arith, whole e.before), omega (arith, room e))
 
-returns_4 : tie.Need_returns_4
-returns_4 c =
+returns-4 : tie.Need-returns-4
+returns-4 c =
     let a = c.before.before.before.before in
     let e = a.before.before.before.before.before.before.before in
     let p = standing a.before.before.before in
-    served_ran _ _ _ _ (counted e.before.before) (whole e.before) (room e) p.0 p.1 a.serve_all.ensures
+    served_ran _ _ _ _ (counted e.before.before) (whole e.before) (room e) p.0 p.1 a.serve-all.ensures
 
-returns_5 : tie.Need_returns_5
-returns_5 c =
+returns-5 : tie.Need-returns-5
+returns-5 c =
     let e = c.before.before.before.before in
     damaged_ran _ _ _ _ (counted e.before.before) (whole e.before) (room e)
-    (rw c.enum_told2.given.1 at c.before.before.judged.ensures)
+    (rw c.enum-told2.given.1 at c.before.before.judged.ensures)
 
 pub run_spec : {M : Type 1} → statement M
 run_spec =
     tie.close
     (tie.spec
-    (λ c κs. search rules) (λ c. search rules) returns (λ c. search rules) returns_2 (λ c. search rules) returns_3 judged_requires
-    (λ c. search rules) serve_all_requires (λ c. search rules) (λ c. search rules) (λ c. search rules) returns_4 (λ c. search rules) returns_5)
+    (λ c κs. search rules) (λ c. search rules) returns (λ c. search rules) returns-2 (λ c. search rules) returns-3 judged-requires
+    (λ c. search rules) serve-all-requires (λ c. search rules) (λ c. search rules) (λ c. search rules) returns-4 (λ c. search rules) returns-5)

@@ -5,7 +5,7 @@ use mathlib.Core.Bool.{true}
 use mathlib.Core.List.{[], ◌++◌}
 use mathlib.Core.Path.{◌≡◌, sym, ◌∙◌}
 use lib.ListN.{drop}
-use lib.Seq.{length_take_le}
+use lib.Seq.{length-take-le}
 use Rattle.order.specs.declared.answer.Answer.TheVariants.{Done, WrongSize}
 use Rattle.grammar.specs.Lines.{pooling}
 use Rattle.script.specs.Prints.{sized}
@@ -15,7 +15,7 @@ use Rattle.script.proofs.Outcomes.{played, pool_shows}
 use Rattle.script.proofs.playing.begin.Statement.{statement}
 use Rattle.script.proofs.playing.begin.Tie as tie
 
-returns : tie.Need_returns
+returns : tie.Need-returns
 returns c = λ s h.
     let t = c.before.before in
     let x = t.before.before.before in
@@ -24,19 +24,19 @@ returns c = λ s h.
     (pool_refused s a.pool.now a.nodes a.n h (no_extent a.n (sym x.extent.ensures ∙ t.before.before.if1.true)))
     (pool_shows a.n s) t.tell.ensures
 
-slice_relend_prefix_build : tie.Need_slice_relend_prefix_build
-slice_relend_prefix_build c =
+slice-relend-prefix-build : tie.Need-slice-relend-prefix-build
+slice-relend-prefix-build c =
     let s = c.before.before.before.before in
     omega (arith, c.before.extent.ensures, extent_most s.args.n, s.requires.0)
 
-slice_aggregate_build : tie.Need_slice_aggregate_build
-slice_aggregate_build c =
+slice-aggregate-build : tie.Need-slice-aggregate-build
+slice-aggregate-build c =
     let x = c.before.before in
     let s = x.before.before.before in
-    sym (length_take_le x.extent.result s.args.pool.now (omega (arith, x.extent.ensures, extent_most s.args.n, s.requires.0)))
+    sym (length-take-le x.extent.result s.args.pool.now (omega (arith, x.extent.ensures, extent_most s.args.n, s.requires.0)))
 
-returns_2 : tie.Need_returns_2
-returns_2 c = λ s h.
+returns-2 : tie.Need-returns-2
+returns-2 c = λ s h.
     let t = c.before.before in
     let b = t.before.before.before.before in
     let e = b.before.before.before in
@@ -51,9 +51,9 @@ returns_2 c = λ s h.
     (rw x.extent.ensures at b.build.ensures))
     (pool_shows a.n s) t.tell2.ensures)
 
-pub begin_spec : {M : Type 1} → statement M
-begin_spec =
+pub begin-spec : {M : Type 1} → statement M
+begin-spec =
     tie.close
     (tie.spec
-    (λ c κs. search rules) (λ c κs. search rules) (λ c. search rules) returns slice_relend_prefix_build slice_aggregate_build (λ c. search rules)
-    (λ c κs. search rules) (λ c κs. search rules) (λ c. search rules) (λ c. search rules) returns_2)
+    (λ c κs. search rules) (λ c κs. search rules) (λ c. search rules) returns slice-relend-prefix-build slice-aggregate-build (λ c. search rules)
+    (λ c κs. search rules) (λ c κs. search rules) (λ c. search rules) (λ c. search rules) returns-2)

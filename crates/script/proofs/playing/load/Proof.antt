@@ -4,7 +4,7 @@ use borrow.Author.Rules.{rules}
 use mathlib.Core.List.{[], ◌++◌}
 use mathlib.Core.Path.{sym}
 use lib.ListN.{drop, take}
-use lib.Seq.{length_take_le}
+use lib.Seq.{length-take-le}
 use Rattle.grammar.specs.Lines.{loading}
 use Rattle.script.specs.Playing.{extent_of}
 use Rattle.script.proofs.Effects.{extent_most, load_did}
@@ -12,24 +12,24 @@ use Rattle.script.proofs.Outcomes.{load_shows, played}
 use Rattle.script.proofs.playing.load.Statement.{statement}
 use Rattle.script.proofs.playing.load.Tie as tie
 
-slice_relend_prefix_build : tie.Need_slice_relend_prefix_build
-slice_relend_prefix_build c =
+slice-relend-prefix-build : tie.Need-slice-relend-prefix-build
+slice-relend-prefix-build c =
     let s = c.before.before.before.before.before in
     omega (arith, c.before.extent.ensures, extent_most s.args.nodes, s.requires.0)
 
-slice_aggregate_build : tie.Need_slice_aggregate_build
-slice_aggregate_build c =
+slice-aggregate-build : tie.Need-slice-aggregate-build
+slice-aggregate-build c =
     let x = c.before.before in
     let s = x.before.before.before.before in
-    sym (length_take_le x.extent.result s.args.pool.now (omega (arith, x.extent.ensures, extent_most s.args.nodes, s.requires.0)))
+    sym (length-take-le x.extent.result s.args.pool.now (omega (arith, x.extent.ensures, extent_most s.args.nodes, s.requires.0)))
 
-slice_aggregate_build_2 : tie.Need_slice_aggregate_build_2
-slice_aggregate_build_2 c =
+slice-aggregate-build-2 : tie.Need-slice-aggregate-build-2
+slice-aggregate-build-2 c =
     let extent = c.before.before.before in
     let s = extent.before.before.before.before in
-    sym (length_take_le s.args.load.count s.args.words.now s.requires.1)
+    sym (length-take-le s.args.load.count s.args.words.now s.requires.1)
 
-returns : tie.Need_returns
+returns : tie.Need-returns
 returns c = λ s h.
     let t = c.before.before in
     let b = t.before.before.before in
@@ -48,5 +48,5 @@ pub load_spec : {M : Type 1} → statement M
 load_spec =
     tie.close
     (tie.spec
-    (λ c κs. search rules) slice_relend_prefix_build slice_aggregate_build slice_aggregate_build_2 (λ c κs. search rules) (λ c κs. search rules)
+    (λ c κs. search rules) slice-relend-prefix-build slice-aggregate-build slice-aggregate-build-2 (λ c κs. search rules) (λ c κs. search rules)
     (λ c. search rules) (λ c. search rules) returns)

@@ -5,8 +5,8 @@ use Rattle.text.proofs.Putting.{over_one}
 use Rattle.script.proofs.telling.put_byte.Statement.{statement}
 use Rattle.script.proofs.telling.put_byte.Tie as tie
 
-returns : tie.Need_returns
+returns : tie.Need-returns
 returns c = (refl, sym (over_one _ _ _ c.requires))
 
-pub put_byte_spec : {M : Type 1} → statement M
-put_byte_spec = tie.close (tie.spec (λ c. search rules) (λ c. search rules) (λ c. search rules) returns)
+pub put-byte-spec : {M : Type 1} → statement M
+put-byte-spec = tie.close (tie.spec (λ c. search rules) (λ c. search rules) (λ c. search rules) returns)

@@ -7,19 +7,19 @@ use Rattle.select.specs.Select.{placed}
 use Rattle.select.proofs.select.kth_set.Statement.{statement}
 use Rattle.select.proofs.select.kth_set.Tie as tie
 
-returns : tie.Need_returns
+returns : tie.Need-returns
 unfolding placed
 returns c = rw (c.if1.true, place_zero)
 
-returns_2 : tie.Need_returns_2
+returns-2 : tie.Need-returns-2
 unfolding placed
-returns_2 c =
+returns-2 c =
     let s = c.before.before.args in
     rw (place_none s.k (bits 64 s.value) (omega arith))
 
-returns_3 : tie.Need_returns_3
+returns-3 : tie.Need-returns-3
 unfolding placed
-returns_3 c = rw c.place_of_set.ensures
+returns-3 c = rw c.place-of-set.ensures
 
-pub kth_set_spec : {M : Type 1} → statement M
-kth_set_spec = tie.close (tie.spec returns returns_2 (λ c κs. search rules) returns_3)
+pub kth-set-spec : {M : Type 1} → statement M
+kth-set-spec = tie.close (tie.spec returns returns-2 (λ c κs. search rules) returns-3)

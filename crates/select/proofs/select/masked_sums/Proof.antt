@@ -10,43 +10,43 @@ use Rattle.select.proofs.select.masked_sums.Statement.{statement}
 use Rattle.select.proofs.select.masked_sums.Tie as tie
 
 -- the program's three sums
-abbrev pairs_sum : ℕ → ℕ
-pairs_sum w = w - bit_and w 0xaaaa_aaaa_aaaa_aaaa / 2
+abbrev pairs-sum : ℕ → ℕ
+pairs-sum w = w - bit_and w 0xaaaa_aaaa_aaaa_aaaa / 2
 
-abbrev halves_sum : ℕ → ℕ
-halves_sum x = bit_and x 0x3333_3333_3333_3333 + bit_and (x / 4) 0x3333_3333_3333_3333
+abbrev halves-sum : ℕ → ℕ
+halves-sum x = bit_and x 0x3333_3333_3333_3333 + bit_and (x / 4) 0x3333_3333_3333_3333
 
 -- each mask is the one that Fields names, by computation
-pairs_are : (w : ℕ) → w < 2 ^ 64 → pairs_sum w ≡ field_counts 2 32 w
+pairs-are : (w : ℕ) → w < 2 ^ 64 → pairs-sum w ≡ field_counts 2 32 w
 unfolding repeated
-pairs_are w h = omega (arith, pairs_counted 32 w h)
+pairs-are w h = omega (arith, pairs_counted 32 w h)
 
-halves_are : (w : ℕ) → halves_sum (field_counts 2 32 w) ≡ field_counts 4 16 w
+halves_are : (w : ℕ) → halves-sum (field_counts 2 32 w) ≡ field_counts 4 16 w
 unfolding repeated twice
 halves_are w = halves_counted 16 w
 
-bytes_are : (w : ℕ) → bit_and (field_counts 4 16 w + field_counts 4 16 w / 16) 0x0f0f_0f0f_0f0f_0f0f ≡ field_counts 8 8 w
+bytes-are : (w : ℕ) → bit_and (field_counts 4 16 w + field_counts 4 16 w / 16) 0x0f0f_0f0f_0f0f_0f0f ≡ field_counts 8 8 w
 unfolding repeated twice
-bytes_are w = bytes_counted 8 w
+bytes-are w = bytes_counted 8 w
 
-sub_pairs : tie.Need_overflow_sub_pairs
-sub_pairs c = omega (arith, and_le_l c.args.value 0xaaaa_aaaa_aaaa_aaaa)
+sub-pairs : tie.Need-overflow-sub-pairs
+sub-pairs c = omega (arith, and_le_l c.args.value 0xaaaa_aaaa_aaaa_aaaa)
 
 -- a mask bounds what it lets through
-halves_small : (x : ℕ) → halves_sum x ≤ 2 * 0x3333_3333_3333_3333
+halves_small : (x : ℕ) → halves-sum x ≤ 2 * 0x3333_3333_3333_3333
 halves_small x = omega (arith, and_le_r x 0x3333_3333_3333_3333, and_le_r (x / 4) 0x3333_3333_3333_3333)
 
-add_halves : tie.Need_overflow_add_halves
-add_halves c = omega (arith, halves_small (pairs_sum c.args.value))
+add-halves : tie.Need-overflow-add-halves
+add-halves c = omega (arith, halves_small (pairs-sum c.args.value))
 
-add_bytes : tie.Need_overflow_add_bytes
-add_bytes c = omega (arith, halves_small (pairs_sum c.args.value))
+add-bytes : tie.Need-overflow-add-bytes
+add-bytes c = omega (arith, halves_small (pairs-sum c.args.value))
 
-returns : tie.Need_returns
+returns : tie.Need-returns
 unfolding sums_of
 returns c =
     let w : ℕ = c.args.value in
-    rw (pairs_are w c.ranges.value.fits, halves_are w, bytes_are w)
+    rw (pairs-are w c.ranges.value.fits, halves_are w, bytes-are w)
 
-pub masked_sums_spec : {M : Type 1} → statement M
-masked_sums_spec = tie.close (tie.spec sub_pairs add_halves add_bytes returns)
+pub masked-sums-spec : {M : Type 1} → statement M
+masked-sums-spec = tie.close (tie.spec sub-pairs add-halves add-bytes returns)

@@ -8,16 +8,16 @@ use Rattle.select.proofs.select.select32.Statement.{statement}
 use Rattle.select.proofs.select.select32.Tie as tie
 
 -- so many bits of the word that is searched are set
-set_bits : (c : tie.After_ones32) → c.ones32.result ≡ ones (bits 64 c.before.chosen32.result)
-set_bits c =
+set-bits : (c : tie.After-ones32) → c.ones32.result ≡ ones (bits 64 c.before.chosen32.result)
+set-bits c =
     let s = c.before.before in
     c.ones32.ensures ∙ chosen_count 32 32 refl s.args.bit s.args.word s.ranges.word.fits c.before.chosen32.ensures
 
-returns : tie.Need_returns
+returns : tie.Need-returns
 returns c =
     let s = c.before.before.before in
     let value = c.before.before.chosen32.ensures in
-    c.kth_set.ensures ∙ chosen_place 32 32 refl s.args.bit s.args.word s.ranges.word.fits value s.args.k
+    c.kth-set.ensures ∙ chosen_place 32 32 refl s.args.bit s.args.word s.ranges.word.fits value s.args.k
 
-pub select32_spec : {M : Type 1} → statement M
-select32_spec = tie.close (tie.spec (λ c κs. search rules) (λ c. search rules) (λ c κs. search rules) (λ c κs. set_bits c) returns)
+pub select32-spec : {M : Type 1} → statement M
+select32-spec = tie.close (tie.spec (λ c κs. search rules) (λ c. search rules) (λ c κs. search rules) (λ c κs. set-bits c) returns)

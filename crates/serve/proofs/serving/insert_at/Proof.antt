@@ -2,7 +2,7 @@
 use Prim.Native.Nat.{ℕ, ◌≤◌}
 use native.Mathlib.Omega.{arith}
 use borrow.Author.Rules.{rules}
-use borrow.Author.Tests.{not_true, not_false}
+use borrow.Author.Tests.{not-true, not-false}
 use mathlib.Core.Bool.{true, false}
 use mathlib.Core.Path.{◌≡◌, sym, ◌∙◌}
 use Rattle.model.specs.Pool.{Pool, full}
@@ -20,55 +20,55 @@ within c = omega (arith, c.if1.false)
 roomy : (c : tie.Then2) (end : ℕ) (p : Pool) → let a = c.before.before.before.before.before.before.args in
     ToServe a.nodes.now end a.held a.may p
     → full a.may a.index p ≡ false
-roomy c end p s = not_true _ (sym (c.before.room.ensures (to_ask s _ (within c.before.before.before))) ∙ c.if2.true)
+roomy c end p s = not-true _ (sym (c.before.room.ensures (to_ask s _ (within c.before.before.before))) ∙ c.if2.true)
 
 none_left : (c : tie.Else2) (end : ℕ) (p : Pool) → let a = c.before.before.before.before.before.before.args in
     ToServe a.nodes.now end a.held a.may p
     → full a.may a.index p ≡ true
-none_left c end p s = not_false _ (sym (c.before.room.ensures (to_ask s _ (within c.before.before.before))) ∙ c.if2.false)
+none_left c end p s = not-false _ (sym (c.before.room.ensures (to_ask s _ (within c.before.before.before))) ∙ c.if2.false)
 
-returns : tie.Need_returns
+returns : tie.Need-returns
 returns c = λ end p s.
     let a = c.before.before.before.before.args in
     let out = insert_out a.may a.index a.bit p (omega (arith, s.total, c.before.if1.true)) in
     still s _ _ _ c.unmoved.ensures out.0 out.1
 
-room_requires : tie.Need_room_requires
-room_requires c κs = let s = c.before.before.before.before.requires in to_ask s.2 _ (within c.before)
+room-requires : tie.Need-room-requires
+room-requires c κs = let s = c.before.before.before.before.requires in to_ask s.2 _ (within c.before)
 
-insert_requires : tie.Need_insert_requires
-insert_requires c κs =
+insert-requires : tie.Need-insert-requires
+insert-requires c κs =
     let s = c.before.before.before.before.before.before.before.before.requires in
     to_insert s.2 _ (within c.before.before.before.before.before) (roomy c.before.before s.0 s.1 s.2)
 
-add_t16 : tie.Need_overflow_add_t16
-add_t16 c = let s = c.before.before.before.before.before.before.before.before.before.before.before.before.requires in
+add-t16 : tie.Need-overflow-add-t16
+add-t16 c = let s = c.before.before.before.before.before.before.before.before.before.before.before.before.requires in
     omega (arith, s.2.total, s.2.site.few)
 
-returns_2 : tie.Need_returns_2
-returns_2 c = λ end p s.
+returns-2 : tie.Need-returns-2
+returns-2 c = λ end p s.
     let inside = within c.before.before.before.before.before.before.before.before.before in
     let room = roomy c.before.before.before.before.before.before end p s in
     inserted s _ _ _ inside room (c.before.before.before.insert.ensures (to_insert s _ inside room))
 
-returns_3 : tie.Need_returns_3
-returns_3 c = λ end p s.
+returns-3 : tie.Need-returns-3
+returns-3 c = λ end p s.
     let a = c.before.before.before.before.before.before.before.args in
     let full = insert_full a.may a.index a.bit p (omega (arith, s.total, within c.before.before.before.before))
     (none_left c.before end p s) in
     still s _ _ _ c.unmoved2.ensures full.0 full.1
 
-pub insert_at_spec : {M : Type 1} → statement M
-insert_at_spec =
+pub insert-at-spec : {M : Type 1} → statement M
+insert-at-spec =
     tie.close
     (tie.spec
     (λ c κs. search rules)
     returns
-    room_requires
-    insert_requires
-    add_t16
+    room-requires
+    insert-requires
+    add-t16
     (λ c. search rules)
-    returns_2
+    returns-2
     (λ c κs. search rules)
     (λ c. search rules)
-    returns_3)
+    returns-3)

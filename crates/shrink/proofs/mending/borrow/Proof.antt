@@ -6,27 +6,27 @@ use Rattle.shrink.proofs.Joining.{borrow_right_asks, borrow_right_puts, borrow_r
 use Rattle.shrink.proofs.mending.borrow.Statement.{statement}
 use Rattle.shrink.proofs.mending.borrow.Tie as tie
 
-drop_first_requires : tie.Need_drop_first_requires
-drop_first_requires c κs =
+drop-first-requires : tie.Need-drop-first-requires
+drop-first-requires c κs =
     let b = rw c.before.if1.true at c.before.before.before.requires in
     (b.short.over.r, borrow_left_asks b)
 
-put_after_requires : tie.Need_put_after_requires
-put_after_requires c κs =
+put-after-requires : tie.Need-put-after-requires
+put-after-requires c κs =
     let drop = c.before.before.before.before in
     let left = drop.before.before in
     let b = rw left.if1.true at left.before.before.requires in
     let d = drop.drop_first in
     (b.short.over.l, d.result ∷ [], borrow_left_puts b (d.ensures b.short.over.r (borrow_left_asks b)) c.lone.ensures)
 
-more_left_requires : tie.Need_more_left_requires
-more_left_requires c κs =
+more-left-requires : tie.Need-more-left-requires
+more-left-requires c κs =
     let drop = c.before.before.before.before.before.before.before.before in
     let left = drop.before.before in
     let b = rw left.if1.true at left.before.before.requires in
     borrow_left_fits b (drop.drop_first.ensures b.short.over.r (borrow_left_asks b))
 
-returns : tie.Need_returns
+returns : tie.Need-returns
 returns c =
     let set = c.before.before in
     let put = set.before.before.before.before.before in
@@ -39,13 +39,13 @@ returns c =
     borrow_left_done b taken (put.put_after.ensures b.short.over.l (d.result ∷ []) asks)
     set.before.more_left.ensures set.set_fork.ensures)
 
-drop_last_requires : tie.Need_drop_last_requires
-drop_last_requires c κs =
+drop-last-requires : tie.Need-drop-last-requires
+drop-last-requires c κs =
     let b = rw c.before.if1.false at c.before.before.before.requires in
     (b.short.over.l, borrow_right_asks b)
 
-put_before_requires : tie.Need_put_before_requires
-put_before_requires c κs =
+put-before-requires : tie.Need-put-before-requires
+put-before-requires c κs =
     let drop = c.before.before.before.before in
     let right = drop.before.before in
     let b = rw right.if1.false at right.before.before.requires in
@@ -53,8 +53,8 @@ put_before_requires c κs =
     let taken = d.ensures b.short.over.l (borrow_right_asks b) in
     (b.short.over.r, d.result ∷ [], borrow_right_puts b taken c.lone2.ensures, borrow_right_fits b taken)
 
-uncount_requires : tie.Need_uncount_requires
-uncount_requires c κs =
+uncount-requires : tie.Need-uncount-requires
+uncount-requires c κs =
     let put = c.before.before.before in
     let drop = put.before.before.before.before.before in
     let right = drop.before.before in
@@ -64,8 +64,8 @@ uncount_requires c κs =
     let asks = borrow_right_puts b taken put.before.lone2.ensures in
     borrow_right_counted b taken (put.put_before.ensures b.short.over.r (d.result ∷ []) asks)
 
-returns_2 : tie.Need_returns_2
-returns_2 c =
+returns-2 : tie.Need-returns-2
+returns-2 c =
     let set = c.before.before in
     let put = set.before.before.before.before in
     let drop = put.before.before.before.before.before in
@@ -76,9 +76,9 @@ returns_2 c =
     let asks = borrow_right_puts b taken put.before.lone2.ensures in
     borrow_right_done b taken (put.put_before.ensures b.short.over.r (d.result ∷ []) asks) set.uncount.ensures)
 
-pub borrow_spec : {M : Type 1} → statement M
-borrow_spec =
+pub borrow-spec : {M : Type 1} → statement M
+borrow-spec =
     tie.close
     (tie.spec
-    drop_first_requires (λ c κs. search rules) put_after_requires more_left_requires (λ c κs. search rules) (λ c. search rules) returns
-    drop_last_requires (λ c κs. search rules) (λ c. search rules) put_before_requires uncount_requires (λ c. search rules) returns_2)
+    drop-first-requires (λ c κs. search rules) put-after-requires more-left-requires (λ c κs. search rules) (λ c. search rules) returns
+    drop-last-requires (λ c κs. search rules) (λ c. search rules) put-before-requires uncount-requires (λ c. search rules) returns-2)

@@ -5,8 +5,8 @@ use Rattle.shrink.proofs.Joining.{lone_leaf}
 use Rattle.shrink.proofs.mending.lone.Statement.{statement}
 use Rattle.shrink.proofs.mending.lone.Tie as tie
 
-returns : tie.Need_returns
+returns : tie.Need-returns
 returns c = sym (lone_leaf c.args.bit)
 
-pub lone_spec : {M : Type 1} → statement M
-lone_spec = tie.close (tie.spec (λ c. search rules) returns)
+pub lone-spec : {M : Type 1} → statement M
+lone-spec = tie.close (tie.spec (λ c. search rules) returns)

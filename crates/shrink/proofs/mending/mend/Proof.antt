@@ -14,66 +14,66 @@ use Rattle.shrink.proofs.mending.mend.Tie as tie
 abbrev Given : tie.Start → Type 0
 Given s = ToMend s.args.nodes.now s.args.n s.args.levels s.args.head.now s.args.left s.args.length
 
-abbrev start : tie.After_fork_at → tie.Start
+abbrev start : tie.After-fork-at → tie.Start
 start c = c.before.before.before
 
-read : (c : tie.After_fork_at) (b : Given (start c)) → c.fork_at.result ≡ b.f
+read : (c : tie.After-fork-at) (b : Given (start c)) → c.fork_at.result ≡ b.f
 read c b = fork_read b c.fork_at.ensures
 
-abbrev size_start : tie.After_next_size → tie.Start
-size_start c = start c.before.before
+abbrev size-start : tie.After-next-size → tie.Start
+size-start c = start c.before.before
 
-abbrev next : (c : tie.After_next_size) → Given (size_start c) → ℕ
-next c b = length (next_leaf (size_start c).args.left b.short.over.l b.short.over.r)
+abbrev next : (c : tie.After-next-size) → Given (size-start c) → ℕ
+next c b = length (next_leaf (size-start c).args.left b.short.over.l b.short.over.r)
 
-next_is : (c : tie.After_next_size) (b : Given (size_start c)) → c.next_size.result ≡ next c b
-next_is c b = c.next_size.ensures (to_measure b (read c.before.before b))
+next_is : (c : tie.After-next-size) (b : Given (size-start c)) → c.next-size.result ≡ next c b
+next_is c b = c.next-size.ensures (to_measure b (read c.before.before b))
 
-lean : (c : tie.Then1) (b : Given (size_start c.before)) → next c.before b ≤ 33
+lean : (c : tie.Then1) (b : Given (size-start c.before)) → next c.before b ≤ 33
 lean c b = omega (arith, next_is c.before b, c.if1.true)
 
-rich : (c : tie.Else1) (b : Given (size_start c.before)) → 33 < next c.before b
+rich : (c : tie.Else1) (b : Given (size-start c.before)) → 33 < next c.before b
 rich c b = omega (arith, next_is c.before b, c.if1.false)
 
 -- ---- needs
 
-fork_at_requires : tie.Need_fork_at_requires
-fork_at_requires c κs = let b = c.before.before.requires in (b.f, b.short.says)
+fork-at-requires : tie.Need-fork-at-requires
+fork-at-requires c κs = let b = c.before.before.requires in (b.f, b.short.says)
 
-next_size_requires : tie.Need_next_size_requires
-next_size_requires c κs = let b = (start c.before).requires in to_measure b (read c.before b)
+next-size-requires : tie.Need-next-size-requires
+next-size-requires c κs = let b = (start c.before).requires in to_measure b (read c.before b)
 
-merge_requires : tie.Need_merge_requires
-merge_requires c κs =
+merge-requires : tie.Need-merge-requires
+merge-requires c κs =
     let test = c.before in
-    let b = (size_start test.before).requires in
+    let b = (size-start test.before).requires in
     to_merge b (read test.before.before.before b) (lean test b)
 
-returns : tie.Need_returns
+returns : tie.Need-returns
 returns c = λ b.
     let free = c.before.before in
     let merge = free.before.before.before.before.before in
     let test = merge.before.before in
     let is = read test.before.before.before b in
     mend_joined b is (lean test b) (merge.merge.ensures (to_merge b is (lean test b)))
-    free.free_children.ensures.0 free.free_children.ensures.1
+    free.free-children.ensures.0 free.free-children.ensures.1
 
-borrow_requires : tie.Need_borrow_requires
-borrow_requires c κs =
+borrow-requires : tie.Need-borrow-requires
+borrow-requires c κs =
     let test = c.before in
-    let b = (size_start test.before).requires in
+    let b = (size-start test.before).requires in
     to_borrow b (read test.before.before.before b) (rich test b)
 
-returns_2 : tie.Need_returns_2
-returns_2 c = λ b.
+returns-2 : tie.Need-returns-2
+returns-2 c = λ b.
     let borrow = c.before.before in
     let test = borrow.before.before in
     let is = read test.before.before.before b in
     mend_lent b is (rich test b) (borrow.borrow.ensures (to_borrow b is (rich test b)))
 
-pub mend_spec : {M : Type 1} → statement M
-mend_spec =
+pub mend-spec : {M : Type 1} → statement M
+mend-spec =
     tie.close
     (tie.spec
-    fork_at_requires next_size_requires merge_requires (λ c κs. search rules) (λ c. search rules) returns
-    borrow_requires (λ c. search rules) returns_2)
+    fork-at-requires next-size-requires merge-requires (λ c κs. search rules) (λ c. search rules) returns
+    borrow-requires (λ c. search rules) returns-2)

@@ -5,7 +5,7 @@ use native.Mathlib.Omega.{arith}
 use mathlib.Core.Path.{◌≡◌, sym, ◌∙◌}
 use mathlib.Core.List.{[], ◌∷◌}
 use borrow.Author.Rules.{rules}
-use borrow.Author.Tests.{not_true, not_false}
+use borrow.Author.Tests.{not-true, not-false}
 use lib.ListN.{length}
 use mathlib.Core.Logic.{⊎_elim}
 use Rattle.model.specs.Edit.{leaf_least}
@@ -18,85 +18,85 @@ use Rattle.sound.proofs.Parts.{Onward, onward_none, onward_more, visited_broken,
 use borrow.Fn.Kinds.{In}
 use borrow.Fn.PlainCycle.{Measures, is, falls, and}
 use Rattle.sound.proofs.visit.visit.Reads as visit
-use Rattle.sound.proofs.visit.visit.Kinds as visit_kinds
-use Rattle.sound.proofs.visit.+visit.Lts_visit as visit_lts
-use Rattle.pool.proofs.node_at.Reads as node_at_reads
-use Rattle.sound.proofs.met.meet.Reads as meet_reads
-use Rattle.sound.proofs.visit.below.Reads as below_reads
-use Rattle.sound.proofs.visit.fork_fits.Reads as fork_fits_reads
-use Rattle.sound.proofs.visit.visit_leaf.Reads as visit_leaf_reads
+use Rattle.sound.proofs.visit.visit.Kinds as visit-kinds
+use Rattle.sound.proofs.visit.+visit.Lts-visit as visit-lts
+use Rattle.pool.proofs.node_at.Reads as node-at-reads
+use Rattle.sound.proofs.met.meet.Reads as meet-reads
+use Rattle.sound.proofs.visit.below.Reads as below-reads
+use Rattle.sound.proofs.visit.fork_fits.Reads as fork-fits-reads
+use Rattle.sound.proofs.visit.visit_leaf.Reads as visit-leaf-reads
 use Rattle.sound.proofs.visit.+visit.{statement}
 use Rattle.sound.proofs.visit.+visit.Tie.{close}
 
 -- the measure: the levels left
-abbrev μ_visit : Measures 2 visit_kinds.ps ℕ
-μ_visit κs a = a.1.1.1.1.1.1.0
+abbrev μ-visit : Measures 2 visit-kinds.ps ℕ
+μ-visit κs a = a.1.1.1.1.1.1.0
 
 -- what a visit is given at the measure t, what a call of it asks below t, and what the callees ask and tell
-abbrev visit_at : ℕ → In 2 visit_kinds.ps
-visit_at t = and 2 visit_kinds.ps (is 2 visit_kinds.ps μ_visit t) visit.Pre
+abbrev visit-at : ℕ → In 2 visit-kinds.ps
+visit-at t = and 2 visit-kinds.ps (is 2 visit-kinds.ps μ-visit t) visit.Pre
 
-abbrev visit_below : ℕ → In 2 visit_kinds.ps
-visit_below t = and 2 visit_kinds.ps (falls 2 visit_kinds.ps ◌<◌ μ_visit t) visit.Pre
+abbrev visit-below : ℕ → In 2 visit-kinds.ps
+visit-below t = and 2 visit-kinds.ps (falls 2 visit-kinds.ps ◌<◌ μ-visit t) visit.Pre
 
-abbrev claims : ℕ → visit_lts.Claims
+abbrev claims : ℕ → visit-lts.Claims
 claims t = (
-  meet_reads.Asked,
-  meet_reads.Learnt,
-  node_at_reads.Asked,
-  node_at_reads.Learnt,
-  fork_fits_reads.Asked,
-  fork_fits_reads.Learnt,
-  below_reads.Asked,
-  below_reads.Learnt,
-  visit_leaf_reads.Asked,
-  visit_leaf_reads.Learnt,
-  visit_below t,
+  meet-reads.Asked,
+  meet-reads.Learnt,
+  node-at-reads.Asked,
+  node-at-reads.Learnt,
+  fork-fits-reads.Asked,
+  fork-fits-reads.Learnt,
+  below-reads.Asked,
+  below-reads.Learnt,
+  visit-leaf-reads.Asked,
+  visit-leaf-reads.Learnt,
+  visit-below t,
   visit.Post,
 )
 
 -- how far the loop has come
-abbrev invariant_loop : visit_lts.invariant_loop
-invariant_loop nodes met₀ root size strikes least depth most n₀ total₀ ones₀ levels₀ room₀ met n total ones levels room =
+abbrev invariant-loop : visit-lts.invariant-loop
+invariant-loop nodes met₀ root size strikes least depth most n₀ total₀ ones₀ levels₀ room₀ met n total ones levels room =
     Onward nodes least met₀ root size strikes depth most met n total ones levels room
 
-abbrev decreases_loop : visit_lts.decreases_loop
-decreases_loop nodes met₀ root size strikes least depth most n₀ total₀ ones₀ levels₀ room₀ met n total ones levels room = levels
+abbrev decreases-loop : visit-lts.decreases-loop
+decreases-loop nodes met₀ root size strikes least depth most n₀ total₀ ones₀ levels₀ room₀ met n total ones levels room = levels
 
 -- ---- what is known at some places
 
 -- the pass that a node was met in, and how long the bits of the met nodes are since
-abbrev pass : (t : ℕ) → visit_lts.After_meet (claims t) (visit_at t) visit.Post invariant_loop decreases_loop
-    → visit_lts.In_loop (claims t) (visit_at t) visit.Post invariant_loop decreases_loop
+abbrev pass : (t : ℕ) → visit-lts.After-meet (claims t) (visit-at t) visit.Post invariant-loop decreases-loop
+    → visit-lts.In-loop (claims t) (visit-at t) visit.Post invariant-loop decreases-loop
 pass t c = c.before.before
 
-kept : (t : ℕ) (c : visit_lts.After_meet (claims t) (visit_at t) visit.Post invariant_loop decreases_loop)
+kept : (t : ℕ) (c : visit-lts.After-meet (claims t) (visit-at t) visit.Post invariant-loop decreases-loop)
     → length c.meet.new.0 ≡ length (pass t c).before.before.before.before.args.met.now
 kept t c = c.meet.auto.0 ∙ (pass t c).before.loop.invariant.size
 
 -- the node was fresh and has been marked
-abbrev meets : (t : ℕ) → visit_lts.Else1 (claims t) (visit_at t) visit.Post invariant_loop decreases_loop
-    → visit_lts.After_meet (claims t) (visit_at t) visit.Post invariant_loop decreases_loop
+abbrev meets : (t : ℕ) → visit-lts.Else1 (claims t) (visit-at t) visit.Post invariant-loop decreases-loop
+    → visit-lts.After-meet (claims t) (visit-at t) visit.Post invariant-loop decreases-loop
 meets t c = c.before.before.before
 
-met_now : (t : ℕ) (c : visit_lts.Else1 (claims t) (visit_at t) visit.Post invariant_loop decreases_loop) → let l = (pass t (meets t c)).before.loop in
+met-now : (t : ℕ) (c : visit-lts.Else1 (claims t) (visit-at t) visit.Post invariant-loop decreases-loop) → let l = (pass t (meets t c)).before.loop in
     (1 < l.room) × Fresh l.met (l.n ∷ []) × Marked l.met (meets t c).meet.new.0 (l.n ∷ [])
-met_now t c = (meets t c).meet.ensures.yes (not_false _ c.if1.false)
+met-now t c = (meets t c).meet.ensures.yes (not-false _ c.if1.false)
 
 -- what was read there
-fork_there : (t : ℕ) (c : visit_lts.After_fork (claims t) (visit_at t) visit.Post invariant_loop decreases_loop)
+fork-there : (t : ℕ) (c : visit-lts.After-fork (claims t) (visit-at t) visit.Post invariant-loop decreases-loop)
     → let l = (pass t (meets t c.before.before.before)).before in
     node_at l.before.before.before.args.nodes.now l.loop.n ≡ fork c.fork.given.0.0
-fork_there t c = sym c.before.before.node_at.ensures ∙ c.fork.given.1
+fork-there t c = sym c.before.before.node_at.ensures ∙ c.fork.given.1
 
 -- what a fork says that fits
-agrees : (t : ℕ) (c : visit_lts.Else2 (claims t) (visit_at t) visit.Post invariant_loop decreases_loop)
+agrees : (t : ℕ) (c : visit-lts.Else2 (claims t) (visit-at t) visit.Post invariant-loop decreases-loop)
     → let there = c.before.before.before in let l = (pass t (meets t there.before.before.before)).before.loop in
     Agrees there.fork.given.0.0 l.total l.ones l.levels
-agrees t c = c.before.fork_fits.ensures.yes (not_false _ c.if2.false)
+agrees t c = c.before.fork-fits.ensures.yes (not-false _ c.if2.false)
 
 -- what was answered of its left child, a leaf or not
-child : (t : ℕ) (c : visit_lts.Joined3 (claims t) (visit_at t) visit.Post invariant_loop decreases_loop)
+child : (t : ℕ) (c : visit-lts.Joined3 (claims t) (visit-at t) visit.Post invariant-loop decreases-loop)
     → let first = c.before.before.before in
     let there = first.before.before.before.before.before in
     let m = meets t there.before.before.before in
@@ -113,52 +113,52 @@ child t c =
 
 -- ---- each need
 
-loop_holds : (t : ℕ) → visit_lts.Need_loop_init (claims t) (visit_at t) visit.Post invariant_loop decreases_loop
-loop_holds t c = onward_none _ _ _ _ _ _ _ _
+loop-holds : (t : ℕ) → visit-lts.Need-loop-init (claims t) (visit-at t) visit.Post invariant-loop decreases-loop
+loop-holds t c = onward_none _ _ _ _ _ _ _ _
 
-same_length : (t : ℕ) → visit_lts.Need_same_length (claims t) (visit_at t) visit.Post invariant_loop decreases_loop
+same_length : (t : ℕ) → visit-lts.Need-same-length (claims t) (visit-at t) visit.Post invariant-loop decreases-loop
 same_length t c = kept t c.before.before.before
 
-returns : (t : ℕ) → visit_lts.Need_returns (claims t) (visit_at t) visit.Post invariant_loop decreases_loop
+returns : (t : ℕ) → visit-lts.Need-returns (claims t) (visit-at t) visit.Post invariant-loop decreases-loop
 returns t c =
     let m = c.before.before.before in
-    (pass t m).before.loop.invariant.on _ _ (visited_met m.meet.ensures (not_true _ c.if1.true))
+    (pass t m).before.loop.invariant.on _ _ (visited_met m.meet.ensures (not-true _ c.if1.true))
 
-same_length_2 : (t : ℕ) → visit_lts.Need_same_length_2 (claims t) (visit_at t) visit.Post invariant_loop decreases_loop
-same_length_2 t c = kept t (meets t c.before.before.before.before.before.before)
+same-length-2 : (t : ℕ) → visit-lts.Need-same-length-2 (claims t) (visit-at t) visit.Post invariant-loop decreases-loop
+same-length-2 t c = kept t (meets t c.before.before.before.before.before.before)
 
-returns_2 : (t : ℕ) → visit_lts.Need_returns_2 (claims t) (visit_at t) visit.Post invariant_loop decreases_loop
-returns_2 t c =
+returns-2 : (t : ℕ) → visit-lts.Need-returns-2 (claims t) (visit-at t) visit.Post invariant-loop decreases-loop
+returns-2 t c =
     let there = c.before.before.before in
     (pass t (meets t there.before.before.before)).before.loop.inv.on _ _
-    (visited_untrue there.fork.given.0.0 (fork_there t there)
-    (λ a. never (c.before.fork_fits.ensures.no a) (not_true _ c.if2.true)))
+    (visited_untrue there.fork.given.0.0 (fork-there t there)
+    (λ a. never (c.before.fork-fits.ensures.no a) (not-true _ c.if2.true)))
 
-sub_below : (t : ℕ) → visit_lts.Need_overflow_sub_below (claims t) (visit_at t) visit.Post invariant_loop decreases_loop
-sub_below t c = let a = agrees t c.before in omega (arith, a.leans, a.even)
+sub-below : (t : ℕ) → visit-lts.Need-overflow-sub-below (claims t) (visit-at t) visit.Post invariant-loop decreases-loop
+sub-below t c = let a = agrees t c.before in omega (arith, a.leans, a.even)
 
-below_requires : (t : ℕ) → visit_lts.Need_below_requires (claims t) (visit_at t) visit.Post invariant_loop decreases_loop
-below_requires t c κs = let a = agrees t c.before in (a.high, omega (arith, a.leans, a.even))
+below-requires : (t : ℕ) → visit-lts.Need-below-requires (claims t) (visit-at t) visit.Post invariant-loop decreases-loop
+below-requires t c κs = let a = agrees t c.before in (a.high, omega (arith, a.leans, a.even))
 
-sub_below_2 : (t : ℕ) → visit_lts.Need_overflow_sub_below_2 (claims t) (visit_at t) visit.Post invariant_loop decreases_loop
-sub_below_2 t c = let a = agrees t c.before.before.before in omega (arith, a.leans, a.even)
+sub-below-2 : (t : ℕ) → visit-lts.Need-overflow-sub-below-2 (claims t) (visit-at t) visit.Post invariant-loop decreases-loop
+sub-below-2 t c = let a = agrees t c.before.before.before in omega (arith, a.leans, a.even)
 
-below_requires_2 : (t : ℕ) → visit_lts.Need_below_requires_2 (claims t) (visit_at t) visit.Post invariant_loop decreases_loop
-below_requires_2 t c κs = let a = agrees t c.before.before.before in (a.high, omega (arith, a.leans, a.even))
+below-requires-2 : (t : ℕ) → visit-lts.Need-below-requires-2 (claims t) (visit-at t) visit.Post invariant-loop decreases-loop
+below-requires-2 t c κs = let a = agrees t c.before.before.before in (a.high, omega (arith, a.leans, a.even))
 
 -- there was room for the fork
-room_there : (t : ℕ) (c : visit_lts.After_below2 (claims t) (visit_at t) visit.Post invariant_loop decreases_loop)
+room-there : (t : ℕ) (c : visit-lts.After-below2 (claims t) (visit-at t) visit.Post invariant-loop decreases-loop)
     → 1 < (pass t (meets t c.before.before.before.before.before.before.before.before.before.before)).before.loop.room
-room_there t c = (met_now t c.before.before.before.before.before.before.before.before.before.before).0
+room-there t c = (met-now t c.before.before.before.before.before.before.before.before.before.before).0
 
-sub_visit_leaf : (t : ℕ) → visit_lts.Need_overflow_sub_visit_leaf (claims t) (visit_at t) visit.Post invariant_loop decreases_loop
-sub_visit_leaf t c = omega (arith, room_there t c.before.before)
+sub-visit-leaf : (t : ℕ) → visit-lts.Need-overflow-sub-visit-leaf (claims t) (visit-at t) visit.Post invariant-loop decreases-loop
+sub-visit-leaf t c = omega (arith, room-there t c.before.before)
 
-sub_visit : (t : ℕ) → visit_lts.Need_overflow_sub_visit (claims t) (visit_at t) visit.Post invariant_loop decreases_loop
-sub_visit t c = omega (arith, room_there t c.before.before)
+sub-visit : (t : ℕ) → visit-lts.Need-overflow-sub-visit (claims t) (visit-at t) visit.Post invariant-loop decreases-loop
+sub-visit t c = omega (arith, room-there t c.before.before)
 
-visit_requires : (t : ℕ) → visit_lts.Need_visit_requires (claims t) (visit_at t) visit.Post invariant_loop decreases_loop
-visit_requires t c κs =
+visit-requires : (t : ℕ) → visit-lts.Need-visit-requires (claims t) (visit-at t) visit.Post invariant-loop decreases-loop
+visit-requires t c κs =
     let first = c.before.before.before.before in
     let told = first.before.before in
     let l = (pass t (meets t told.before.before.before.before.before.before)).before in
@@ -168,108 +168,108 @@ visit_requires t c κs =
     let high = (agrees t told).high in
     (omega (arith, start.pre), omega (arith, start.pre))
 
-sub_total : (t : ℕ) → visit_lts.Need_overflow_sub_total (claims t) (visit_at t) visit.Post invariant_loop decreases_loop
-sub_total t c = let a = agrees t c.before.before.before.before.before.before in omega (arith, a.marks)
+sub-total : (t : ℕ) → visit-lts.Need-overflow-sub-total (claims t) (visit-at t) visit.Post invariant-loop decreases-loop
+sub-total t c = let a = agrees t c.before.before.before.before.before.before in omega (arith, a.marks)
 
-sub_ones : (t : ℕ) → visit_lts.Need_overflow_sub_ones (claims t) (visit_at t) visit.Post invariant_loop decreases_loop
-sub_ones t c = let a = agrees t c.before.before.before.before.before.before.before in omega (arith, a.ones)
+sub-ones : (t : ℕ) → visit-lts.Need-overflow-sub-ones (claims t) (visit-at t) visit.Post invariant-loop decreases-loop
+sub-ones t c = let a = agrees t c.before.before.before.before.before.before.before in omega (arith, a.ones)
 
-loop_less : (t : ℕ) → visit_lts.Need_loop_smaller (claims t) (visit_at t) visit.Post invariant_loop decreases_loop
-loop_less t c =
+loop-less : (t : ℕ) → visit-lts.Need-loop-smaller (claims t) (visit-at t) visit.Post invariant-loop decreases-loop
+loop-less t c =
     let second = c.before.before.before in
     omega (arith, second.below2.ensures, (agrees t second.before.before.before.before).high)
 
-loop_again : (t : ℕ) → visit_lts.Need_loop_preserved (claims t) (visit_at t) visit.Post invariant_loop decreases_loop
-loop_again t c =
+loop-again : (t : ℕ) → visit-lts.Need-loop-preserved (claims t) (visit-at t) visit.Post invariant-loop decreases-loop
+loop-again t c =
     let joined = c.before.before in
     let second = joined.before in
     let first = second.before.before in
     let told = first.before.before in
     let there = told.before.before.before in
-    let m = met_now t there.before.before.before in
+    let m = met-now t there.before.before.before in
     let p = pass t (meets t there.before.before.before) in
     let v = child t joined in
-    onward_more p.before.loop.inv m.0 m.1 m.2 there.fork.given.0.0 (fork_there t there) (agrees t told)
+    onward_more p.before.loop.inv m.0 m.1 m.2 there.fork.given.0.0 (fork-there t there) (agrees t told)
     (omega (arith, first.below.ensures)) (omega (arith, second.below2.ensures)) v.0 v.1
 
-same_length_3 : (t : ℕ) → visit_lts.Need_same_length_3 (claims t) (visit_at t) visit.Post invariant_loop decreases_loop
-same_length_3 t c = kept t (meets t c.before.before.before)
+same-length-3 : (t : ℕ) → visit-lts.Need-same-length-3 (claims t) (visit-at t) visit.Post invariant-loop decreases-loop
+same-length-3 t c = kept t (meets t c.before.before.before)
 
-returns_3 : (t : ℕ) → visit_lts.Need_returns_3 (claims t) (visit_at t) visit.Post invariant_loop decreases_loop
-returns_3 t c =
+returns-3 : (t : ℕ) → visit-lts.Need-returns-3 (claims t) (visit-at t) visit.Post invariant-loop decreases-loop
+returns-3 t c =
     let read = c.before.before in
-    let in_loop = pass t (meets t read.before) in
-    in_loop.before.loop.inv.on _ _
+    let in-loop = pass t (meets t read.before) in
+    in-loop.before.loop.inv.on _ _
     (visited_unfit c.enum_told.given.0.0 (sym read.node_at.ensures ∙ c.enum_told.given.1)
-    (λ f. omega (arith, f.low, in_loop.loop_test)))
+    (λ f. omega (arith, f.low, in-loop.loop-test)))
 
-same_length_4 : (t : ℕ) → visit_lts.Need_same_length_4 (claims t) (visit_at t) visit.Post invariant_loop decreases_loop
-same_length_4 t c = kept t (meets t c.before.before.before)
+same-length-4 : (t : ℕ) → visit-lts.Need-same-length-4 (claims t) (visit-at t) visit.Post invariant-loop decreases-loop
+same-length-4 t c = kept t (meets t c.before.before.before)
 
-returns_4 : (t : ℕ) → visit_lts.Need_returns_4 (claims t) (visit_at t) visit.Post invariant_loop decreases_loop
-returns_4 t c =
+returns-4 : (t : ℕ) → visit-lts.Need-returns-4 (claims t) (visit-at t) visit.Post invariant-loop decreases-loop
+returns-4 t c =
     let read = c.before.before in
     (pass t (meets t read.before)).before.loop.inv.on _ _
-    (visited_free c.enum_told2.given.0.0 (sym read.node_at.ensures ∙ c.enum_told2.given.1))
+    (visited_free c.enum-told2.given.0.0 (sym read.node_at.ensures ∙ c.enum-told2.given.1))
 
-same_length_5 : (t : ℕ) → visit_lts.Need_same_length_5 (claims t) (visit_at t) visit.Post invariant_loop decreases_loop
-same_length_5 t c = kept t (meets t c.before.before.before)
+same-length-5 : (t : ℕ) → visit-lts.Need-same-length-5 (claims t) (visit-at t) visit.Post invariant-loop decreases-loop
+same-length-5 t c = kept t (meets t c.before.before.before)
 
-returns_5 : (t : ℕ) → visit_lts.Need_returns_5 (claims t) (visit_at t) visit.Post invariant_loop decreases_loop
-returns_5 t c =
+returns-5 : (t : ℕ) → visit-lts.Need-returns-5 (claims t) (visit-at t) visit.Post invariant-loop decreases-loop
+returns-5 t c =
     let read = c.before.before in
     (pass t (meets t read.before)).before.loop.inv.on _ _
-    (visited_broken (sym read.node_at.ensures ∙ c.enum_told3.given.1))
+    (visited_broken (sym read.node_at.ensures ∙ c.enum-told3.given.1))
 
-visit_leaf_requires_2 : (t : ℕ) → visit_lts.Need_visit_leaf_requires_2 (claims t) (visit_at t) visit.Post invariant_loop decreases_loop
-visit_leaf_requires_2 t c κs = omega (arith, c.before.loop_test)
+visit-leaf-requires-2 : (t : ℕ) → visit-lts.Need-visit-leaf-requires-2 (claims t) (visit-at t) visit.Post invariant-loop decreases-loop
+visit-leaf-requires-2 t c κs = omega (arith, c.before.loop-test)
 
-same_length_6 : (t : ℕ) → visit_lts.Need_same_length_6 (claims t) (visit_at t) visit.Post invariant_loop decreases_loop
-same_length_6 t c =
+same-length-6 : (t : ℕ) → visit-lts.Need-same-length-6 (claims t) (visit-at t) visit.Post invariant-loop decreases-loop
+same-length-6 t c =
     let last = c.before.before in
-    last.visit_leaf2.auto.1.0 ∙ last.before.before.before.loop.invariant.size
+    last.visit-leaf2.auto.1.0 ∙ last.before.before.before.loop.invariant.size
 
-returns_6 : (t : ℕ) → visit_lts.Need_returns_6 (claims t) (visit_at t) visit.Post invariant_loop decreases_loop
-returns_6 t c =
+returns-6 : (t : ℕ) → visit-lts.Need-returns-6 (claims t) (visit-at t) visit.Post invariant-loop decreases-loop
+returns-6 t c =
     let last = c.before.before in
-    last.before.before.before.loop.invariant.on _ _ last.visit_leaf2.ensures
+    last.before.before.before.loop.invariant.on _ _ last.visit-leaf2.ensures
 
-pub +visit_spec : {M : Type 1} → statement M
-+visit_spec = close μ_visit λ t. visit_lts.spec (claims t)
-    (visit_at t)
+pub +visit-spec : {M : Type 1} → statement M
++visit-spec = close μ-visit λ t. visit-lts.spec (claims t)
+    (visit-at t)
     visit.Post
-    invariant_loop
-    decreases_loop
-    (loop_holds t)
+    invariant-loop
+    decreases-loop
+    (loop-holds t)
     (λ c κs. search rules)
     (same_length t)
     (returns t)
     (λ c κs. search rules)
     (λ c. search rules)
     (λ c κs. search rules)
-    (same_length_2 t)
-    (returns_2 t)
-    (sub_below t)
-    (below_requires t)
-    (sub_below_2 t)
-    (below_requires_2 t)
-    (sub_visit_leaf t)
+    (same-length-2 t)
+    (returns-2 t)
+    (sub-below t)
+    (below-requires t)
+    (sub-below-2 t)
+    (below-requires-2 t)
+    (sub-visit-leaf t)
     (λ c κs. omega arith)
-    (sub_visit t)
-    (visit_requires t)
-    (sub_total t)
-    (sub_ones t)
-    (loop_less t)
-    (loop_again t)
+    (sub-visit t)
+    (visit-requires t)
+    (sub-total t)
+    (sub-ones t)
+    (loop-less t)
+    (loop-again t)
     (λ c. search rules)
-    (same_length_3 t)
-    (returns_3 t)
+    (same-length-3 t)
+    (returns-3 t)
     (λ c. search rules)
-    (same_length_4 t)
-    (returns_4 t)
+    (same-length-4 t)
+    (returns-4 t)
     (λ c. search rules)
-    (same_length_5 t)
-    (returns_5 t)
-    (visit_leaf_requires_2 t)
-    (same_length_6 t)
-    (returns_6 t)
+    (same-length-5 t)
+    (returns-5 t)
+    (visit-leaf-requires-2 t)
+    (same-length-6 t)
+    (returns-6 t)

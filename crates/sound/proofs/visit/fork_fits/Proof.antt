@@ -4,20 +4,20 @@ use Rattle.sound.proofs.Answers.{says_no, says_most}
 use Rattle.sound.proofs.visit.fork_fits.Statement.{statement}
 use Rattle.sound.proofs.visit.fork_fits.Tie as tie
 
-returns : tie.Need_returns
+returns : tie.Need-returns
 returns c = says_no (λ a. omega (arith, a.high))
 
-returns_2 : tie.Need_returns_2
-returns_2 c = says_no (λ a. omega (arith, a.leans))
+returns-2 : tie.Need-returns-2
+returns-2 c = says_no (λ a. omega (arith, a.leans))
 
-returns_3 : tie.Need_returns_3
-returns_3 c = says_no (λ a. omega (arith, a.even))
+returns-3 : tie.Need-returns-3
+returns-3 c = says_no (λ a. omega (arith, a.even))
 
-returns_4 : tie.Need_returns_4
-returns_4 c = says_no (λ a. omega (arith, a.marks))
+returns-4 : tie.Need-returns-4
+returns-4 c = says_no (λ a. omega (arith, a.marks))
 
-returns_5 : tie.Need_returns_5
-returns_5 c =
+returns-5 : tie.Need-returns-5
+returns-5 c =
     let total = c.before in
     let even = total.before.before in
     let leans = even.before.before in
@@ -34,5 +34,5 @@ returns_5 c =
     })
     (λ a. a.ones)
 
-pub fork_fits_spec : {M : Type 1} → statement M
-fork_fits_spec = tie.close (tie.spec returns returns_2 returns_3 returns_4 returns_5)
+pub fork-fits-spec : {M : Type 1} → statement M
+fork-fits-spec = tie.close (tie.spec returns returns-2 returns-3 returns-4 returns-5)

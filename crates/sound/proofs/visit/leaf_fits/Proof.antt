@@ -8,30 +8,30 @@ use Rattle.sound.proofs.Padding.{cut_none, none_cut, held_ends}
 use Rattle.sound.proofs.visit.leaf_fits.Statement.{statement}
 use Rattle.sound.proofs.visit.leaf_fits.Tie as tie
 
-returns : tie.Need_returns
+returns : tie.Need-returns
 returns c = says_no (λ f. c.if1.true f.low)
 
-returns_2 : tie.Need_returns_2
-returns_2 c = says_no (λ f. omega (arith, f.enough))
+returns-2 : tie.Need-returns-2
+returns-2 c = says_no (λ f. omega (arith, f.enough))
 
-returns_3 : tie.Need_returns_3
-returns_3 c = says_no (λ f. omega (arith, f.most))
+returns-3 : tie.Need-returns-3
+returns-3 c = says_no (λ f. omega (arith, f.most))
 
-returns_4 : tie.Need_returns_4
-returns_4 c =
+returns-4 : tie.Need-returns-4
+returns-4 c =
     let join = c.before.before.before in
     let s = join.before.before.before.before.args in
     says_no (λ f. c.if4.true (ap (λ (x : Leaf). x.low) (none_cut s.leaf s.total _ join.join.ensures f.ends)))
 
-returns_5 : tie.Need_returns_5
-returns_5 c =
+returns-5 : tie.Need-returns-5
+returns-5 c =
     let else4 = c.before.before.before in
     let join = else4.before.before.before in
     let s = join.before.before.before.before.args in
     says_no (λ f. c.if5.true (ap (λ (x : Leaf). x.high) (none_cut s.leaf s.total _ join.join.ensures f.ends)))
 
-returns_6 : tie.Need_returns_6
-returns_6 c =
+returns-6 : tie.Need-returns-6
+returns-6 c =
     let high = c.before in
     let low = high.before.before.before in
     let join = low.before.before.before in
@@ -50,6 +50,6 @@ returns_6 c =
     })
     (λ f. c.count_before.ensures ∙ sym all ∙ f.ones)
 
-pub leaf_fits_spec : {M : Type 1} → statement M
-leaf_fits_spec =
-    tie.close (tie.spec returns returns_2 returns_3 (λ c κs. search rules) returns_4 returns_5 (λ c κs. search rules) returns_6)
+pub leaf-fits-spec : {M : Type 1} → statement M
+leaf-fits-spec =
+    tie.close (tie.spec returns returns-2 returns-3 (λ c κs. search rules) returns-4 returns-5 (λ c κs. search rules) returns-6)

@@ -5,9 +5,9 @@ use Rattle.text.specs.Text.{hex_text}
 use Rattle.text.proofs.numbers.put_hex.Statement.{statement}
 use Rattle.text.proofs.numbers.put_hex.Tie as tie
 
-returns : tie.Need_returns
+returns : tie.Need-returns
 unfolding hex_text
-returns c = (refl, c.before.before.put_digits.ensures)
+returns c = (refl, c.before.before.put-digits.ensures)
 
-pub put_hex_spec : {M : Type 1} → statement M
-put_hex_spec = tie.close (tie.spec (λ c κs. search rules) (λ c. search rules) (λ c. search rules) returns)
+pub put-hex-spec : {M : Type 1} → statement M
+put-hex-spec = tie.close (tie.spec (λ c κs. search rules) (λ c. search rules) (λ c. search rules) returns)

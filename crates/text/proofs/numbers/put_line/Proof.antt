@@ -6,12 +6,12 @@ use mathlib.Core.Path.{◌≡◌, refl, sym, ap, ◌∙◌}
 use mathlib.Core.List.{List}
 use lib.ListN.{length, set}
 use Rattle.text.specs.Text.{decimal_text, digits, LinePut, over}
-use Rattle.text.proofs.Putting.{decimal_places, over_next}
+use Rattle.text.proofs.Putting.{decimal_places, over-next}
 use Rattle.text.proofs.numbers.put_line.Statement.{statement}
 use Rattle.text.proofs.numbers.put_line.Tie as tie
 
 -- the count is that of the text's bytes
-counted : (c : tie.After_places) → c.places.result ≡ length (decimal_text c.before.before.args.number)
+counted : (c : tie.After-places) → c.places.result ≡ length (decimal_text c.before.before.args.number)
 counted c = c.places.ensures ∙ sym (decimal_places c.before.before.args.number)
 
 -- no room
@@ -26,29 +26,29 @@ put n at k bs bs₁ e h o = record {
     ap (λ (m : ℕ). at + m + 1) e,
     ap (λ (x : List ℕ). set x (at + k) 10) o
         ∙ ap (λ (m : ℕ). set (over at (decimal_text n) bs) (at + m) 10) e
-        ∙ over_next at (decimal_text n) 10 bs (omega arith),
+        ∙ over-next at (decimal_text n) 10 bs (omega arith),
   );
   not = λ g. absurd (omega arith);
 }
 
-returns : tie.Need_returns
+returns : tie.Need-returns
 returns c =
     let args = c.before.before.before.args in
     unput args.number args.at args.out.now (omega (arith, counted c.before))
 
-put_digits_requires : tie.Need_put_digits_requires
-put_digits_requires c κs = (omega arith, omega arith, omega arith)
+put-digits-requires : tie.Need-put-digits-requires
+put-digits-requires c κs = (omega arith, omega arith, omega arith)
 
-returns_2 : tie.Need_returns_2
+returns-2 : tie.Need-returns-2
 unfolding decimal_text
-returns_2 c =
+returns-2 c =
     let at_places = c.before.before.before.before.before in
     let args = at_places.before.before.args in
     put args.number args.at at_places.places.result args.out.now _ (counted at_places) (omega arith)
-    (rw at_places.places.ensures at c.before.before.put_digits.ensures)
+    (rw at_places.places.ensures at c.before.before.put-digits.ensures)
 
-pub put_line_spec : {M : Type 1} → statement M
-put_line_spec =
+pub put-line-spec : {M : Type 1} → statement M
+put-line-spec =
     tie.close
-    (tie.spec (λ c κs. search rules) (λ c. search rules) returns put_digits_requires (λ c. omega arith) (λ c. omega arith) (λ c. omega arith)
-    (λ c. search rules) returns_2)
+    (tie.spec (λ c κs. search rules) (λ c. search rules) returns put-digits-requires (λ c. omega arith) (λ c. omega arith) (λ c. omega arith)
+    (λ c. search rules) returns-2)

@@ -9,21 +9,21 @@ use Rattle.tree.specs.TreeAt.{tree_at}
 use Rattle.tree.proofs.query.access.Statement.{statement}
 use Rattle.tree.proofs.query.access.Tie as tie
 
-reach_requires : tie.Need_reach_requires
-reach_requires c κs = let p = c.before.requires in (tree_at p.0 p.1 p.2, omega arith)
+reach-requires : tie.Need-reach-requires
+reach-requires c κs = let p = c.before.requires in (tree_at p.0 p.1 p.2, omega arith)
 
-mark_at_requires : tie.Need_mark_at_requires
-mark_at_requires c κs =
+mark-at-requires : tie.Need-mark-at-requires
+mark-at-requires c κs =
     let p = c.before.before.before.requires in
     let q = c.before.reach.ensures (tree_at p.0 p.1 p.2) in
     omega (arith, q.within, q.small)
 
-returns : tie.Need_returns
+returns : tie.Need-returns
 returns c = λ t h e.
     let spot = c.before.before.reach in
     let q = spot.ensures (tree_at t h e) in
-    c.mark_at.ensures ∙ ap (λ (x : Leaf). access spot.result.at (bits_of x)) q.leaf
+    c.mark-at.ensures ∙ ap (λ (x : Leaf). access spot.result.at (bits_of x)) q.leaf
     ∙ access_held _ spot.result.at (omega (arith, q.small)) ∙ q.mark
 
-pub access_spec : {M : Type 1} → statement M
-access_spec = tie.close (tie.spec reach_requires mark_at_requires returns)
+pub access-spec : {M : Type 1} → statement M
+access-spec = tie.close (tie.spec reach-requires mark-at-requires returns)

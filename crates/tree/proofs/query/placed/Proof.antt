@@ -2,22 +2,22 @@
 use Prim.Native.Nat.{◌+◌}
 use native.Mathlib.Omega.{arith}
 use borrow.Author.Rules.{rules}
-use borrow.Author.Tests.{lt_ltb, le_ltb}
+use borrow.Author.Tests.{lt-ltb, le-ltb}
 use Rattle.tree.specs.Query.{found_at}
 use Rattle.tree.proofs.query.placed.Statement.{statement}
 use Rattle.tree.proofs.query.placed.Tie as tie
 
-add_found : tie.Need_overflow_add_found
-add_found c = record { fits = rw c.before.place.given.1 at c.before.before.before.requires }
+add-found : tie.Need-overflow-add-found
+add-found c = record { fits = rw c.before.place.given.1 at c.before.before.before.requires }
 
-returns : tie.Need_returns
+returns : tie.Need-returns
 returns c =
     let a = c.before.before.before.before.args in
     let at = c.before.before.place.given in
-    rw (at.1, found_at, lt_ltb (a.before + at.0.0) a.length (omega (arith, c.if1.true)))
+    rw (at.1, found_at, lt-ltb (a.before + at.0.0) a.length (omega (arith, c.if1.true)))
 
-returns_2 : tie.Need_returns_2
-returns_2 c = rw (c.before.before.place.given.1, found_at, le_ltb _ _ c.if1.false)
+returns-2 : tie.Need-returns-2
+returns-2 c = rw (c.before.before.place.given.1, found_at, le-ltb _ _ c.if1.false)
 
-pub placed_spec : {M : Type 1} → statement M
-placed_spec = tie.close (tie.spec (λ c. search rules) add_found returns (λ c. search rules) returns_2 (λ c. search rules))
+pub placed-spec : {M : Type 1} → statement M
+placed-spec = tie.close (tie.spec (λ c. search rules) add-found returns (λ c. search rules) returns-2 (λ c. search rules))

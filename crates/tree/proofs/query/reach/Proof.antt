@@ -9,58 +9,58 @@ use Rattle.tree.proofs.Questions.{Reaching, reach_begin, reach_here, reach_step,
 use Rattle.tree.proofs.query.reach.Statement.{statement}
 use Rattle.tree.proofs.query.reach.Tie as tie
 
-abbrev invariant_loop : tie.invariant_loop
-invariant_loop nodes root length place n₀ len₀ at₀ ones₀ levels₀ n len at ones levels =
+abbrev invariant-loop : tie.invariant-loop
+invariant-loop nodes root length place n₀ len₀ at₀ ones₀ levels₀ n len at ones levels =
     (s : TreeAt nodes root 12 length) → On nodes n levels (Reaching s.tree place len at ones)
 
-abbrev decreases_loop : tie.decreases_loop
-decreases_loop nodes root length place n₀ len₀ at₀ ones₀ levels₀ n len at ones levels = levels
+abbrev decreases-loop : tie.decreases-loop
+decreases-loop nodes root length place n₀ len₀ at₀ ones₀ levels₀ n len at ones levels = levels
 
 -- where a node was read, what was asked at the start
-abbrev start : tie.After_leaf_or_fork invariant_loop decreases_loop → tie.Start invariant_loop decreases_loop
+abbrev start : tie.After-leaf-or-fork invariant-loop decreases-loop → tie.Start invariant-loop decreases-loop
 start read = read.before.before.before
 
 -- a fork was read: of any tree that stands there, and of the one that was asked
-at_fork : (c : tie.After_fork invariant_loop decreases_loop) → let read = c.before.before in let a = (start read).args in let l = read.before.loop in
+at_fork : (c : tie.After-fork invariant-loop decreases-loop) → let read = c.before.before in let a = (start read).args in let l = read.before.loop in
     (s : TreeAt a.nodes.now a.root 12 a.length)
     → OnFork a.nodes.now l.n l.levels (Reaching s.tree a.place l.len l.at l.ones) c.fork.given.0.0
 at_fork c s = let read = c.before.before in told_fork (read.before.loop.invariant s) read.leaf_or_fork.ensures c.fork.given.1
 
-within : (c : tie.After_fork invariant_loop decreases_loop) → let l = c.before.before.before.loop in
+within : (c : tie.After-fork invariant-loop decreases-loop) → let l = c.before.before.before.loop in
     (1 ≤ l.levels) × (c.fork.given.0.0.left_total ≤ l.len)
 within c =
     let here = at_fork c (start c.before.before).pre.0 in
     (on_level here, on_fork here (λ m u v e q. reach_total m u v _ e q))
 
-loop_holds : tie.Need_loop_init invariant_loop decreases_loop
-loop_holds c = λ s. record { tree = s.tree; rooted = s.rooted; here = reach_begin s.tree _ _ s.total c.before.requires.1 }
+loop-holds : tie.Need-loop-init invariant-loop decreases-loop
+loop-holds c = λ s. record { tree = s.tree; rooted = s.rooted; here = reach_begin s.tree _ _ s.total c.before.requires.1 }
 
-leaf_or_fork_requires : tie.Need_leaf_or_fork_requires invariant_loop decreases_loop
-leaf_or_fork_requires c κs = on_node (c.loop.invariant c.before.before.requires.0)
+leaf-or-fork-requires : tie.Need-leaf-or-fork-requires invariant-loop decreases-loop
+leaf-or-fork-requires c κs = on_node (c.loop.invariant c.before.before.requires.0)
 
-returns : tie.Need_returns invariant_loop decreases_loop
+returns : tie.Need-returns invariant-loop decreases-loop
 returns c = λ s.
     let read = c.before.before.before in
     on_leaf (told_leaf (read.before.loop.invariant s) read.leaf_or_fork.ensures c.before.leaf.given.1) (λ m xs e k p. reach_here m xs _ e k p)
 
-loop_again : tie.Need_loop_preserved invariant_loop decreases_loop
-loop_again c = λ s.
+loop-again : tie.Need-loop-preserved invariant-loop decreases-loop
+loop-again c = λ s.
     let step = c.before.toward in
     reach_step (at_fork c.before.before.before s) _ step.ensures.0 step.ensures.1 c.either.ensures
 
-add_ones : tie.Need_overflow_add_ones invariant_loop decreases_loop
-add_ones c =
+add-ones : tie.Need-overflow-add-ones invariant-loop decreases-loop
+add-ones c =
     let fork = c.before.before.before in
     let asked = start fork.before.before in
     let s = asked.pre.0 in
-    omega (arith, (loop_again c s).here.strikes, rank_most s.tree true asked.args.place, s.total, asked.fits.length)
+    omega (arith, (loop-again c s).here.strikes, rank_most s.tree true asked.args.place, s.total, asked.fits.length)
 
-loop_less : tie.Need_loop_smaller invariant_loop decreases_loop
-loop_less c = omega (arith, within c.before.before.before)
+loop-less : tie.Need-loop-smaller invariant-loop decreases-loop
+loop-less c = omega (arith, within c.before.before.before)
 
-pub reach_spec : {M : Type 1} → statement M
-reach_spec =
+pub reach-spec : {M : Type 1} → statement M
+reach-spec =
     tie.close
     (tie.spec
-    invariant_loop decreases_loop loop_holds leaf_or_fork_requires (λ c. search rules) returns (λ c. search rules) (λ c. (within c.before).0)
-    (λ c κs. (within c.before).1) (λ c κs. search rules) add_ones loop_less loop_again)
+    invariant-loop decreases-loop loop-holds leaf-or-fork-requires (λ c. search rules) returns (λ c. search rules) (λ c. (within c.before).0)
+    (λ c κs. (within c.before).1) (λ c κs. search rules) add-ones loop-less loop-again)

@@ -14,7 +14,7 @@ use Rattle.tree.proofs.Questions.{rank_most}
 use Rattle.tree.proofs.query.strikes.Statement.{statement}
 use Rattle.tree.proofs.query.strikes.Tie as tie
 
-counted : (c : tie.After_count_before) → let a = c.before.before.before.before.args in
+counted : (c : tie.After-count-before) → let a = c.before.before.before.before.args in
     (s : TreeAt a.nodes.now a.root 12 a.length)
     → c.before.before.reach.result.ones + c.count_before.result ≡ rank true a.end (marks s.tree)
 counted c s =
@@ -26,14 +26,14 @@ counted c s =
     ∙ rank_held _ true at (omega (arith, q.small)) q.within)
     ∙ q.strikes
 
-add_result : tie.Need_overflow_add_result
-add_result c =
+add-result : tie.Need-overflow-add-result
+add-result c =
     let start = c.before.before.before.before.before in
     let s = start.requires.0 in
     omega (arith, counted c.before s, rank_most s.tree true start.args.end, s.total, start.ranges.length)
 
-returns : tie.Need_returns
+returns : tie.Need-returns
 returns c = λ s. counted c.before s
 
-pub strikes_spec : {M : Type 1} → statement M
-strikes_spec = tie.close (tie.spec (λ c κs. search rules) (λ c κs. search rules) add_result returns)
+pub strikes-spec : {M : Type 1} → statement M
+strikes-spec = tie.close (tie.spec (λ c κs. search rules) (λ c κs. search rules) add-result returns)

@@ -13,19 +13,19 @@ use Rattle.turn.proofs.balance.above.Tie as tie
 one_more : {x k : ℕ} (z : ℤ) → SFits w64 z → Within 99 z → Apart z x k → Apart (held z +ℤ pos 1) (suc x) k × ((x ≤ k + 99) × (k ≤ x + 99))
 one_more {x} {k} z f h p = (same (held z +ℤ pos 1) (suc x) k (sum (held z) (pos 1) (kept z f p) (some 1)) (omega arith), near 99 z p h)
 
-add_result : tie.Need_overflow_add_result
-add_result c =
+add-result : tie.Need-overflow-add-result
+add-result c =
     let s = c.before in
     let l = one_more s.args.right s.ranges.right s.requires.1 (from 99 s.args.right s.requires.1).1.0 in
     fits _ l.0 (omega arith) (omega arith)
 
-add_result_2 : tie.Need_overflow_add_result_2
-add_result_2 c =
+add-result-2 : tie.Need-overflow-add-result-2
+add-result-2 c =
     let s = c.before in
     let l = one_more s.args.left s.ranges.left s.requires.0 (from 99 s.args.left s.requires.0).1.0 in
     fits _ l.0 (omega arith) (omega arith)
 
-returns : tie.Need_returns
+returns : tie.Need-returns
 returns c = λ x y k p q.
     let s = c.before in
     let one = kept s.args.left s.ranges.left p in
@@ -34,8 +34,8 @@ returns c = λ x y k p q.
     let l = one_more s.args.right s.ranges.right s.requires.1 q in
     read _ (same _ (suc (max x y)) k l.0 (omega arith)) (omega arith) (omega arith)
 
-returns_2 : tie.Need_returns_2
-returns_2 c = λ x y k p q.
+returns-2 : tie.Need-returns-2
+returns-2 c = λ x y k p q.
     let s = c.before in
     let one = kept s.args.left s.ranges.left p in
     let other = kept s.args.right s.ranges.right q in
@@ -43,5 +43,5 @@ returns_2 c = λ x y k p q.
     let l = one_more s.args.left s.ranges.left s.requires.0 p in
     read _ (same _ (suc (max x y)) k l.0 (omega arith)) (omega arith) (omega arith)
 
-pub above_spec : {M : Type 1} → statement M
-above_spec = tie.close (tie.spec add_result returns add_result_2 returns_2)
+pub above-spec : {M : Type 1} → statement M
+above-spec = tie.close (tie.spec add-result returns add-result-2 returns-2)

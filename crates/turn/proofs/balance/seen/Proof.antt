@@ -18,23 +18,23 @@ less_two c =
     let n : Apart (to_z w64 c.args.stored) c.args.stored 0 = rw e (some c.args.stored) in
     same _ c.args.stored 2 (minus (to_z w64 c.args.stored) (pos 2) n (some 2)) (omega arith)
 
-sub_balance : tie.Need_overflow_sub_balance
-sub_balance c = fits _ (less_two c) (omega arith) (omega arith)
+sub-balance : tie.Need-overflow-sub-balance
+sub-balance c = fits _ (less_two c) (omega arith) (omega arith)
 
-sub_result : tie.Need_overflow_sub_result
-sub_result c = fits _ (opposite _ (less_two c.before) (omega arith) (omega arith)) (omega arith) (omega arith)
+sub-result : tie.Need-overflow-sub-result
+sub-result c = fits _ (opposite _ (less_two c.before) (omega arith) (omega arith)) (omega arith) (omega arith)
 
-returns : tie.Need_returns
+returns : tie.Need-returns
 returns c = λ x y p.
     let s = c.before in
     let q : Stores true x y s.args.stored = rw c.if1.true at p in
     read _ (same _ x y (opposite _ (less_two s) (omega arith) (omega arith)) (omega arith)) (omega arith) (omega arith)
 
-returns_2 : tie.Need_returns_2
-returns_2 c = λ x y p.
+returns-2 : tie.Need-returns-2
+returns-2 c = λ x y p.
     let s = c.before in
     let q : Stores false x y s.args.stored = rw c.if1.false at p in
     read _ (same _ x y (less_two s) (omega arith)) (omega arith) (omega arith)
 
-pub seen_spec : {M : Type 1} → statement M
-seen_spec = tie.close (tie.spec (λ c. search rules) sub_balance sub_result returns returns_2)
+pub seen-spec : {M : Type 1} → statement M
+seen-spec = tie.close (tie.spec (λ c. search rules) sub-balance sub-result returns returns-2)

@@ -13,20 +13,20 @@ two_more c =
     let h = read c.args.balance x.1.0 (omega arith) (omega arith) in
     (x.0, (x.1.0, (same _ x.0 0 (sum (held c.args.balance) (pos 2) h (some 2)) (omega arith), omega arith)))
 
-add_result : tie.Need_overflow_add_result
-add_result c = let t = two_more c in fits _ t.1.1.0 (omega arith) (omega arith)
+add-result : tie.Need-overflow-add-result
+add-result c = let t = two_more c in fits _ t.1.1.0 (omega arith) (omega arith)
 
-cast_result : tie.Need_overflow_cast_result
-cast_result c =
+cast-result : tie.Need-overflow-cast-result
+cast-result c =
     let t = two_more c in
     let w = whole _ (read _ t.1.1.0 (omega arith) (omega arith)) in
     (w.0, record { fits = omega arith })
 
-returns : tie.Need_returns
+returns : tie.Need-returns
 returns c =
     let t = two_more c in
     let w = whole _ (read _ t.1.1.0 (omega arith) (omega arith)) in
     rw w.1 t.1.0
 
-pub stored_spec : {M : Type 1} → statement M
-stored_spec = tie.close (tie.spec add_result cast_result returns)
+pub stored-spec : {M : Type 1} → statement M
+stored-spec = tie.close (tie.spec add-result cast-result returns)

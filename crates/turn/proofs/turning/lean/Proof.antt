@@ -18,14 +18,14 @@ use Rattle.turn.proofs.turning.lean.Tie as tie
 abbrev Given : tie.Start → Tree → Type 0
 Given s t = Child s.args.nodes.now s.args.n t
 
-balance_is : (c : tie.After_balance_at) (t : Tree) → Given c.before.before.before t → c.balance_at.result ≡ balance_of t
+balance_is : (c : tie.After-balance-at) (t : Tree) → Given c.before.before.before t → c.balance_at.result ≡ balance_of t
 balance_is c t k = c.balance_at.ensures ∙ (child_node t k).1
 
-abbrev start : tie.After_seen → tie.Start
+abbrev start : tie.After-seen → tie.Start
 start c = c.before.before.before.before
 
 -- the balance, seen from the side
-seen : (c : tie.After_seen) (t : Tree) → Given (start c) t
+seen : (c : tie.After-seen) (t : Tree) → Given (start c) t
     → let left = (start c).args.left in Apart c.seen.result (side left 2 (balance_of t)) (side left (balance_of t) 2)
 seen c t k =
     let left = (start c).args.left in
@@ -40,35 +40,35 @@ away = negsuc 0
 leans : (c : tie.Then1) (t : Tree) → Given (start c.before) t → Away (start c.before).args.left t
 leans c t k =
     let s = c.before.seen in
-    let p = tested s.result away (record { sfits = s.type_inv }) (record { sfits = omega arith }) c.if1.true (seen c.before t k) in
+    let p = tested s.result away (record { sfits = s.type-inv }) (record { sfits = omega arith }) c.if1.true (seen c.before t k) in
     omega (arith, p.is, away_most (start c.before).args.left t k.balanced)
 
 stands : (c : tie.Else1) (t : Tree) → Given (start c.before) t → Away (start c.before).args.left t → ⊥
 stands c t k h = refuted c.before.seen.result away c.if1.false (seen c.before t k) (record { is = omega arith })
 
-balance_at_requires : tie.Need_balance_at_requires
-balance_at_requires c κs = let p = c.before.before.requires in (child_node p.0 p.1).0
+balance-at-requires : tie.Need-balance-at-requires
+balance-at-requires c κs = let p = c.before.before.requires in (child_node p.0 p.1).0
 
-seen_requires : tie.Need_seen_requires
-seen_requires c κs =
+seen-requires : tie.Need-seen-requires
+seen-requires c κs =
     let p = c.before.before.before.requires in
     omega (arith, balance_is c p.0 p.1, balance_small p.0 p.1.balanced)
 
-turn_requires : tie.Need_turn_requires
-turn_requires c κs =
+turn-requires : tie.Need-turn-requires
+turn-requires c κs =
     let s = start c.before.before in
     let p = s.pre in
     child_turns s.args.left p.0 p.1 (leans c.before p.0 p.1)
 
-returns : tie.Need_returns
+returns : tie.Need-returns
 returns c = λ t k.
     let turn = c.before.before in
     let test = turn.before.before in
     leant (start test.before).args.left t k (leans test t k) turn.turn.ensures
 
-returns_2 : tie.Need_returns_2
-returns_2 c = λ t k. stood (start c.before).args.left t k (stands c t k)
+returns-2 : tie.Need-returns-2
+returns-2 c = λ t k. stood (start c.before).args.left t k (stands c t k)
 
-pub lean_spec : {M : Type 1} → statement M
-lean_spec =
-    tie.close (tie.spec balance_at_requires seen_requires turn_requires (λ c. search rules) returns (λ c. search rules) returns_2)
+pub lean-spec : {M : Type 1} → statement M
+lean-spec =
+    tie.close (tie.spec balance-at-requires seen-requires turn-requires (λ c. search rules) returns (λ c. search rules) returns-2)

@@ -23,25 +23,25 @@ child_stands s t =
     (joined_parts left s.args.nodes.now s.args.n t.a (joined left t.b t.c t.e) t.stands.holds).1.0
 
 -- the entry, where the child's number is known
-abbrev start : tie.After_far_child → tie.Start
+abbrev start : tie.After-far-child → tie.Start
 start c = c.before.before.before.before
 
-top_is : (c : tie.After_far_child) (t : Given (start c))
+top_is : (c : tie.After-far-child) (t : Given (start c))
     → let left = (start c).args.left in c.before.fork_at.result ≡ over left t.a (joined left t.b t.c t.e)
 top_is c t = c.before.fork_at.ensures ∙ ap fork_in t.stands.holds.0
 
-child_at : (c : tie.After_far_child) (t : Given (start c)) → c.far_child.result ≡ t.b
+child_at : (c : tie.After-far-child) (t : Given (start c)) → c.far-child.result ≡ t.b
 child_at c t =
     let left = (start c).args.left in
     let y = joined left t.b t.c t.e in
-    c.far_child.ensures ∙ far_at c.before.fork_at.result left t.a y (top_is c t) ∙ fork_top t.b _ _
+    c.far-child.ensures ∙ far_at c.before.fork_at.result left t.a y (top_is c t) ∙ fork_top t.b _ _
 
-child_read : (c : tie.After_far_child) (t : Given (start c))
-    → node_at (start c).args.nodes.now c.far_child.result ≡ Node.Fork (over (start c).args.left t.c t.e)
-child_read c t = ap (node_at (start c).args.nodes.now) (child_at c t) ∙ child_stands (start c) t
+child-read : (c : tie.After-far-child) (t : Given (start c))
+    → node_at (start c).args.nodes.now c.far-child.result ≡ Node.Fork (over (start c).args.left t.c t.e)
+child-read c t = ap (node_at (start c).args.nodes.now) (child_at c t) ∙ child_stands (start c) t
 
-rising : (c : tie.After_fork_at2) (t : Given (start c.before.before))
-    → Rising (start c.before.before).args.left c.before.before.before.fork_at.result c.fork_at2.result
+rising : (c : tie.After-fork-at2) (t : Given (start c.before.before))
+    → Rising (start c.before.before).args.left c.before.before.before.fork_at.result c.fork-at2.result
 rising c t =
     let far = c.before.before in
     let s = start far in
@@ -53,21 +53,21 @@ rising c t =
       c = t.c;
       e = t.e;
       top_is = top_is far t;
-      child_is = c.fork_at2.ensures ∙ ap fork_in (child_read far t);
+      child_is = c.fork-at2.ensures ∙ ap fork_in (child-read far t);
       leans = t.leans;
       few = omega (arith, t.stands.few, joined_size left s.args.n t.a y, joined_size left t.b t.c t.e);
     }
 
-fork_at_requires : tie.Need_fork_at_requires
-fork_at_requires c κs = (_, c.before.before.requires.stands.holds.0)
+fork-at-requires : tie.Need-fork-at-requires
+fork-at-requires c κs = (_, c.before.before.requires.stands.holds.0)
 
-fork_at_requires_2 : tie.Need_fork_at_requires_2
-fork_at_requires_2 c κs = (_, child_read c.before (start c.before).requires)
+fork-at-requires-2 : tie.Need-fork-at-requires-2
+fork-at-requires-2 c κs = (_, child-read c.before (start c.before).requires)
 
-new_forks_requires : tie.Need_new_forks_requires
-new_forks_requires c κs = rising c (start c.before.before).requires
+new-forks-requires : tie.Need-new-forks-requires
+new-forks-requires c κs = rising c (start c.before.before).requires
 
-returns : tie.Need_returns
+returns : tie.Need-returns
 unfolding rising
 returns c = λ t.
     let second = c.before.before.before in
@@ -76,8 +76,8 @@ returns c = λ t.
     let s = start made.before.before.before in
     let left = s.args.left in
     let n = s.args.n in
-    let forks = made.new_forks.result in
-    let risen = made.new_forks.ensures (rising made.before t) in
+    let forks = made.new-forks.result in
+    let risen = made.new-forks.ensures (rising made.before t) in
     let h = t.leans in
     let before = joined_height left n t.a (joined left t.b t.c t.e) in
     let after = joined_height left n (joined left t.b t.a t.c) t.e in
@@ -85,7 +85,7 @@ returns c = λ t.
     let lowered = joined_height left t.b t.a t.c in
     record {
       edited =
-          turned_words left _ forks.lowered forks.risen t first.set_fork.ensures second.set_fork2.ensures
+          turned_words left _ forks.lowered forks.risen t first.set_fork.ensures second.set-fork2.ensures
           (child_at made.before.before.before t) risen.lowered_is risen.risen_is;
       change = rw (turned_is left n t.b t.a t.c t.e) (read forks.change (risen.change n) (omega arith) (omega arith));
     }
@@ -94,5 +94,5 @@ pub turn_spec : {M : Type 1} → statement M
 turn_spec =
     tie.close
     (tie.spec
-    fork_at_requires (λ c κs. search rules) fork_at_requires_2 new_forks_requires (λ c κs. search rules) (λ c κs. search rules) (λ c. search rules)
+    fork-at-requires (λ c κs. search rules) fork-at-requires-2 new-forks-requires (λ c κs. search rules) (λ c κs. search rules) (λ c. search rules)
     returns)

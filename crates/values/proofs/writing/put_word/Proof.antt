@@ -5,8 +5,8 @@ use borrow.Author.Rules.{rules}
 use Rattle.values.proofs.writing.put_word.Statement.{statement}
 use Rattle.values.proofs.writing.put_word.Tie as tie
 
-returns_2 : tie.Need_returns_2
-returns_2 c = sym (set_out _ _ _ c.if1.false)
+returns-2 : tie.Need-returns-2
+returns-2 c = sym (set_out _ _ _ c.if1.false)
 
-pub put_word_spec : {M : Type 1} → statement M
-put_word_spec = tie.close (tie.spec (λ c. search rules) (λ c. search rules) (λ c. search rules) (λ c. search rules) returns_2)
+pub put-word-spec : {M : Type 1} → statement M
+put-word-spec = tie.close (tie.spec (λ c. search rules) (λ c. search rules) (λ c. search rules) (λ c. search rules) returns-2)

@@ -14,17 +14,17 @@ use Rattle.values.proofs.Output.{begun, room_for}
 use Rattle.values.proofs.writing.values.Statement.{statement}
 use Rattle.values.proofs.writing.values.Tie as tie
 
-add_marks_requires : tie.Need_add_marks_requires
-add_marks_requires c κs =
+add-marks-requires : tie.Need-add-marks-requires
+add-marks-requires c κs =
     let p = c.before.before.before.requires in
     (tree_at p.0 p.1 p.2, omega arith, omega (arith, p.2, size_bound 0 p.0 12 p.1.sized p.1.deep))
 
-words_for_requires : tie.Need_words_for_requires
-words_for_requires c κs =
+words-for-requires : tie.Need-words-for-requires
+words-for-requires c κs =
     let p = c.before.before.before.before.before.before.before.requires in
     omega (arith, p.2, size_bound 0 p.0 12 p.1.sized p.1.deep)
 
-returns : tie.Need_returns
+returns : tie.Need-returns
 returns c = λ t h e.
     let done = c.before.before in
     let words = done.before.words_for.ensures in
@@ -34,8 +34,8 @@ returns c = λ t h e.
     let count : start.args.length ≡ _ = sym e ∙ size_marks t in
     let room = room_for t _ e _ start.requires.3 in
     done.finish.ensures out (marks t) (words ∙ ap words_for count) (rw words start.requires.3)
-    (filled.add_marks.ensures.1 (tree_at t h e) out [] room (begun out))
+    (filled.add-marks.ensures.1 (tree_at t h e) out [] room (begun out))
     ∙ ap (λ (n : ℕ). words_of n (marks t) ++ drop n out) words
 
-pub values_spec : {M : Type 1} → statement M
-values_spec = tie.close (tie.spec add_marks_requires words_for_requires (λ c κs. search rules) (λ c. search rules) returns)
+pub values-spec : {M : Type 1} → statement M
+values-spec = tie.close (tie.spec add-marks-requires words-for-requires (λ c κs. search rules) (λ c. search rules) returns)

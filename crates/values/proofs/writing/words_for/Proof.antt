@@ -5,9 +5,9 @@ use Rattle.model.specs.Word.{words_for}
 use Rattle.values.proofs.writing.words_for.Statement.{statement}
 use Rattle.values.proofs.writing.words_for.Tie as tie
 
-returns : tie.Need_returns
+returns : tie.Need-returns
 unfolding words_for
 returns c = refl
 
-pub words_for_spec : {M : Type 1} → statement M
-words_for_spec = tie.close (tie.spec (λ c. search rules) (λ c. search rules) (λ c. search rules) returns)
+pub words-for-spec : {M : Type 1} → statement M
+words-for-spec = tie.close (tie.spec (λ c. search rules) (λ c. search rules) (λ c. search rules) returns)

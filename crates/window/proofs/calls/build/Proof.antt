@@ -4,7 +4,7 @@ use native.Mathlib.Omega.{arith}
 use borrow.Author.Rules.{rules}
 use mathlib.Core.List.{List, ◌++◌}
 use mathlib.Core.Path.{◌≡◌, refl, sym, ap, ◌∙◌}
-use lib.ListN.{length, take, drop, length_append}
+use lib.ListN.{length, take, drop, length-append}
 use Rattle.model.specs.Build.{leaf_count}
 use Rattle.model.specs.Pool.{Pool}
 use Rattle.build.specs.Built.{Room}
@@ -31,64 +31,64 @@ fits c =
       enough = omega (arith, c.if3.false, c.before.leaf_count.ensures);
     }
 
-returns : tie.Need_returns
+returns : tie.Need-returns
 returns c = no_built _ _ _ (c.before.nodes_of.ensures.no c.if1.true)
 
-returns_2 : tie.Need_returns_2
-returns_2 c =
+returns-2 : tie.Need-returns-2
+returns-2 c =
     long_built _ _ _ _ (c.before.before.before.nodes_of.ensures.yes (omega (arith, c.before.before.if1.false)))
     (c.before.too_few.ensures.yes c.if2.true)
 
-add_if3 : tie.Need_overflow_add_if3
-add_if3 c = let k = c.before.before.before.nodes_of.ensures.yes (omega (arith, c.before.before.if1.false)) in omega (arith, k.most)
+add-if3 : tie.Need-overflow-add-if3
+add-if3 c = let k = c.before.before.before.nodes_of.ensures.yes (omega (arith, c.before.before.if1.false)) in omega (arith, k.most)
 
-returns_3 : tie.Need_returns_3
-returns_3 c =
+returns-3 : tie.Need-returns-3
+returns-3 c =
     let k = c.before.before.before.before.before.nodes_of.ensures.yes (omega (arith, c.before.before.before.before.if1.false)) in
     full_built _ _ _ _ k (let t = says_not c.before.before.before.too_few.ensures c.before.before.if2.false in omega (arith, t))
     (omega (arith, c.if3.true, c.before.leaf_count.ensures))
 
-mul_end : tie.Need_overflow_mul_end
-mul_end c = let f = fits c in omega (arith, f.counted.most)
+mul-end : tie.Need-overflow-mul-end
+mul-end c = let f = fits c in omega (arith, f.counted.most)
 
-slice_relend_prefix_build : tie.Need_slice_relend_prefix_build
-slice_relend_prefix_build c = let f = fits c in omega (arith, f.counted.words)
+slice-relend-prefix-build : tie.Need-slice-relend-prefix-build
+slice-relend-prefix-build c = let f = fits c in omega (arith, f.counted.words)
 
-slice_aggregate_build : tie.Need_slice_aggregate_build
-slice_aggregate_build c = let f = fits c.before in sym (nodes_length _ _ f.counted)
+slice-aggregate-build : tie.Need-slice-aggregate-build
+slice-aggregate-build c = let f = fits c.before in sym (nodes_length _ _ f.counted)
 
-build_requires : tie.Need_build_requires
-build_requires c κs = fits_room (fits c.before)
+build-requires : tie.Need-build-requires
+build-requires c κs = fits_room (fits c.before)
 
-mul_set_trailer : tie.Need_overflow_mul_set_trailer
-mul_set_trailer c = let f = fits c.before.before.before.before.before in omega (arith, f.counted.most)
+mul-set-trailer : tie.Need-overflow-mul-set-trailer
+mul-set-trailer c = let f = fits c.before.before.before.before.before in omega (arith, f.counted.most)
 
-sub_set_trailer : tie.Need_overflow_sub_set_trailer
-sub_set_trailer c = let f = fits c.before.before.before.before.before in
+sub-set-trailer : tie.Need-overflow-sub-set-trailer
+sub-set-trailer c = let f = fits c.before.before.before.before.before in
     omega (arith, after_length f _ _ c.before.before.before.build.ensures)
 
-part_set_trailer_start : tie.Need_slice_bounds_set_trailer_start
-part_set_trailer_start c = sub_set_trailer c
+part-set-trailer-start : tie.Need-slice-bounds-set-trailer-start
+part-set-trailer-start c = sub-set-trailer c
 
-set_trailer_requires : tie.Need_set_trailer_requires
-set_trailer_requires c κs =
-    let build_place = c.before.before.before.before in
-    let else3 = build_place.before.before in
+set-trailer-requires : tie.Need-set-trailer-requires
+set-trailer-requires c κs =
+    let build-place = c.before.before.before.before in
+    let else3 = build-place.before.before in
     let f = fits else3 in
-    after_trailer f _ _ build_place.build.ensures
+    after_trailer f _ _ build-place.build.ensures
 
-returns_4 : tie.Need_returns_4
-returns_4 c =
+returns-4 : tie.Need-returns-4
+returns-4 c =
     let chain = c.before.before.before.before in
-    let build_place = chain.before.before.before in
-    let else3 = build_place.before.before in
+    let build-place = chain.before.before.before in
+    let else3 = build-place.before.before in
     let f = fits else3 in
-    after_stands f _ _ build_place.build.ensures _ c.before.before.set_trailer.ensures
+    after_stands f _ _ build-place.build.ensures _ c.before.before.set_trailer.ensures
 
-pub build_spec : {M : Type 1} → statement M
-build_spec =
+pub build-spec : {M : Type 1} → statement M
+build-spec =
     tie.close
     (tie.spec
-    (λ c κs. search rules) (λ c. search rules) returns (λ c κs. search rules) (λ c. search rules) returns_2 add_if3 (λ c κs. search rules)
-    (λ c. search rules) returns_3 mul_end slice_relend_prefix_build slice_aggregate_build build_requires mul_set_trailer sub_set_trailer
-    part_set_trailer_start (λ c. search rules) set_trailer_requires (λ c. search rules) returns_4)
+    (λ c κs. search rules) (λ c. search rules) returns (λ c κs. search rules) (λ c. search rules) returns-2 add-if3 (λ c κs. search rules)
+    (λ c. search rules) returns-3 mul-end slice-relend-prefix-build slice-aggregate-build build-requires mul-set-trailer sub-set-trailer
+    part-set-trailer-start (λ c. search rules) set-trailer-requires (λ c. search rules) returns-4)

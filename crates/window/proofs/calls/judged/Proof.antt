@@ -4,7 +4,7 @@ use native.Mathlib.Omega.{arith}
 use borrow.Author.Rules.{rules}
 use mathlib.Core.Path.{◌≡◌, sym, ap, ◌∙◌}
 use mathlib.Core.Bool.{true, false}
-use lib.ListN.{length, take, drop, length_drop}
+use lib.ListN.{length, take, drop, length-drop}
 use lib.Seq.{take_all}
 use Rattle.sound.specs.Judged.{Judged}
 use Rattle.window.specs.Layout.{WellFormed, trailer_in}
@@ -13,41 +13,41 @@ use Rattle.window.proofs.calls.judged.Statement.{statement}
 use Rattle.window.proofs.calls.judged.Tie as tie
 
 -- what was read is the trailer
-told : (c : tie.After_trailer_of) → let s = c.before.before.before in
+told : (c : tie.After-trailer-of) → let s = c.before.before.before in
     c.trailer_of.result ≡ trailer_in (drop (s.args.n * 6) s.args.pool.now)
 told c =
     let s = c.before.before.before in
     c.trailer_of.ensures ∙ ap trailer_in (take_all (length s.args.pool.now - s.args.n * 6) (drop (s.args.n * 6) s.args.pool.now)
-    (omega (arith, length_drop (s.args.n * 6) s.args.pool.now)))
+    (omega (arith, length-drop (s.args.n * 6) s.args.pool.now)))
 
-returns : tie.Need_returns
+returns : tie.Need-returns
 returns c = λ x.
     let s = c.before.before.before.before.before in
     let q = well_at s.args.pool.now s.args.n s.requires x in
     c.if1.true (rw (told c.before.before) (stands_nodes s.args.pool.now s.args.n s.requires q.0 q.1))
 
-returns_2 : tie.Need_returns_2
-returns_2 c =
+returns-2 : tie.Need-returns-2
+returns-2 c =
     let trailer_of = c.before.before.before.before in
     let s = trailer_of.before.before.before in
     λ x.
     let q = well_at s.args.pool.now s.args.n s.requires x in
     c.if2.true (rw (told trailer_of) (stands_last s.args.pool.now s.args.n s.requires q.0 q.1))
 
-slice_aggregate_sound : tie.Need_slice_aggregate_sound
-slice_aggregate_sound c =
+slice-aggregate-sound : tie.Need-slice-aggregate-sound
+slice-aggregate-sound c =
     let else1 = c.before.before.before.before in
     let s = else1.before.before.before.before.before in
     sym (nodes_length s.args.pool.now s.args.n s.requires)
 
-sound_requires : tie.Need_sound_requires
-sound_requires c κs =
+sound-requires : tie.Need-sound-requires
+sound-requires c κs =
     let else1 = c.before.before.before.before in
     let s = else1.before.before.before.before.before in
     rw (nodes_are s.args.pool.now s.args.n s.requires, nodes_length s.args.pool.now s.args.n s.requires) (omega (arith, s.requires.most))
 
-returns_3 : tie.Need_returns_3
-returns_3 c =
+returns-3 : tie.Need-returns-3
+returns-3 c =
     let else2 = c.before.before.before.before in
     let else1 = else2.before.before in
     let trailer_of = else1.before.before in
@@ -60,8 +60,8 @@ returns_3 c =
       t,
     )
 
-returns_4 : tie.Need_returns_4
-returns_4 c =
+returns-4 : tie.Need-returns-4
+returns-4 c =
     let else2 = c.before.before.before.before in
     let trailer_of = else2.before.before.before.before in
     let s = trailer_of.before.before.before in
@@ -73,9 +73,9 @@ returns_4 c =
     let never : ◌≡◌ {A = ℕ} 0 1 = cc in
     omega arith
 
-pub judged_spec : {M : Type 1} → statement M
-judged_spec =
+pub judged-spec : {M : Type 1} → statement M
+judged-spec =
     tie.close
     (tie.spec
-    (λ c. search rules) (λ c. search rules) (λ c. search rules) (λ c. search rules) (λ c. search rules) (λ c κs. search rules) returns returns_2
-    slice_aggregate_sound sound_requires returns_3 returns_4)
+    (λ c. search rules) (λ c. search rules) (λ c. search rules) (λ c. search rules) (λ c. search rules) (λ c κs. search rules) returns returns-2
+    slice-aggregate-sound sound-requires returns-3 returns-4)

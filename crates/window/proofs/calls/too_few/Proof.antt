@@ -2,18 +2,18 @@
 use Prim.Native.Nat.{ℕ, ◌%◌}
 use native.Mathlib.Omega.{arith}
 use mathlib.Core.Path.{◌≡◌, refl}
-use borrow.Author.Tests.{ltb_true, lt_ltb}
+use borrow.Author.Tests.{ltb-true, lt-ltb}
 use Rattle.window.proofs.calls.too_few.Statement.{statement}
 use Rattle.window.proofs.calls.too_few.Tie as tie
 
-returns : tie.Need_returns
+returns : tie.Need-returns
 returns c = record { yes = λ _. omega arith; no = λ _. refl }
 
-returns_2 : tie.Need_returns_2
-returns_2 c = record { yes = λ e. let never : ◌≡◌ {A = ℕ} 0 1 = cc in absurd (omega arith); no = λ h. absurd (omega arith) }
+returns-2 : tie.Need-returns-2
+returns-2 c = record { yes = λ e. let never : ◌≡◌ {A = ℕ} 0 1 = cc in absurd (omega arith); no = λ h. absurd (omega arith) }
 
-returns_3 : tie.Need_returns_3
-returns_3 c = record { yes = λ e. omega (arith, ltb_true); no = λ h. lt_ltb 0 (c.before.before.args.length % 64) (omega arith) }
+returns-3 : tie.Need-returns-3
+returns-3 c = record { yes = λ e. omega (arith, ltb-true); no = λ h. lt-ltb 0 (c.before.before.args.length % 64) (omega arith) }
 
-pub too_few_spec : {M : Type 1} → statement M
-too_few_spec = tie.close (tie.spec returns returns_2 returns_3)
+pub too-few-spec : {M : Type 1} → statement M
+too-few-spec = tie.close (tie.spec returns returns-2 returns-3)

@@ -7,15 +7,15 @@ use borrow.Author.Rules.{rules}
 use Rattle.window_replay.proofs.bytes.put_words.Statement.{statement}
 use Rattle.window_replay.proofs.bytes.put_words.Tie as tie
 
-abbrev invariant_loop : tie.invariant_loop
-invariant_loop bytes₀ at words count i₀ bytes i = length bytes ≡ length bytes₀
+abbrev invariant-loop : tie.invariant-loop
+invariant-loop bytes₀ at words count i₀ bytes i = length bytes ≡ length bytes₀
 
-abbrev decreases_loop : tie.decreases_loop
-decreases_loop bytes₀ at words count i₀ bytes i = count - i
+abbrev decreases-loop : tie.decreases-loop
+decreases-loop bytes₀ at words count i₀ bytes i = count - i
 
-pub put_words_spec : {M : Type 1} → statement M
-put_words_spec =
+pub put-words-spec : {M : Type 1} → statement M
+put-words-spec =
     tie.close
     (tie.spec
-    invariant_loop decreases_loop (λ c. search rules) (λ c. search rules) (λ c. search rules) (λ c. search rules) (λ c. search rules) (λ c κs. search rules)
+    invariant-loop decreases-loop (λ c. search rules) (λ c. search rules) (λ c. search rules) (λ c. search rules) (λ c. search rules) (λ c κs. search rules)
     (λ c. search rules) (λ c. search rules) (λ c. search rules) (λ c. search rules) (λ c. search rules))

@@ -7,15 +7,15 @@ use borrow.Author.Rules.{rules}
 use Rattle.window_replay.proofs.bytes.read_words.Statement.{statement}
 use Rattle.window_replay.proofs.bytes.read_words.Tie as tie
 
-abbrev invariant_loop : tie.invariant_loop
-invariant_loop bytes from words₀ count i₀ words i = length words ≡ length words₀
+abbrev invariant-loop : tie.invariant-loop
+invariant-loop bytes from words₀ count i₀ words i = length words ≡ length words₀
 
-abbrev decreases_loop : tie.decreases_loop
-decreases_loop bytes from words₀ count i₀ words i = count - i
+abbrev decreases-loop : tie.decreases-loop
+decreases-loop bytes from words₀ count i₀ words i = count - i
 
-pub read_words_spec : {M : Type 1} → statement M
-read_words_spec =
+pub read-words-spec : {M : Type 1} → statement M
+read-words-spec =
     tie.close
     (tie.spec
-    invariant_loop decreases_loop (λ c. search rules) (λ c. search rules) (λ c. search rules) (λ c κs. search rules) (λ c. search rules) (λ c. search rules)
+    invariant-loop decreases-loop (λ c. search rules) (λ c. search rules) (λ c. search rules) (λ c κs. search rules) (λ c. search rules) (λ c. search rules)
     (λ c. search rules) (λ c. search rules) (λ c. search rules) (λ c. search rules) (λ c. search rules))

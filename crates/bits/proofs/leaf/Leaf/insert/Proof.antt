@@ -8,7 +8,7 @@ use Rattle.bits.proofs.TwoWords.{edit_chosen, insert_low, insert_high, insert_no
 use Rattle.bits.proofs.leaf.Leaf.insert.Statement.{statement}
 use Rattle.bits.proofs.leaf.Leaf.insert.Tie as tie
 
-returns : tie.Need_returns
+returns : tie.Need-returns
 unfolding bits_of odd
 returns c =
     let above = c.before.before in
@@ -16,18 +16,18 @@ returns c =
     let word = put.before in
     let a = word.before.before.args in
     edit_chosen a.self (λ first w k. packed (insert k a.bit (bits 64 w))) (search rules) (λ t. search rules) (λ t. search rules)
-    word.either.ensures put.word_insert.ensures c.before.either2.ensures c.either3.ensures
-    (λ h. insert_low a.self a.at a.bit h refl above.word_insert2.ensures)
+    word.either.ensures put.word-insert.ensures c.before.either2.ensures c.either3.ensures
+    (λ h. insert_low a.self a.at a.bit h refl above.word-insert2.ensures)
     (λ h. insert_high a.self a.at a.bit (search rules) h refl)
 
-returns_2 : tie.Need_returns_2
+returns-2 : tie.Need-returns-2
 unfolding bits_of
-returns_2 c =
+returns-2 c =
     let a = c.before.args in
     insert_none a.self a.at a.bit (search rules) (search rules) (search rules)
 
-pub insert_spec : {M : Type 1} → statement M
-insert_spec =
+pub insert-spec : {M : Type 1} → statement M
+insert-spec =
     tie.close
     (tie.spec
-    (λ c κs. search rules) (λ c κs. search rules) (λ c κs. search rules) (λ c κs. search rules) (λ c κs. search rules) returns returns_2)
+    (λ c κs. search rules) (λ c κs. search rules) (λ c κs. search rules) (λ c κs. search rules) (λ c κs. search rules) returns returns-2)

@@ -10,7 +10,7 @@ use Rattle.bits.proofs.TwoWords.{edit_chosen, remove_low, remove_high, remove_no
 use Rattle.bits.proofs.leaf.Leaf.remove.Statement.{statement}
 use Rattle.bits.proofs.leaf.Leaf.remove.Tie as tie
 
-returns : tie.Need_returns
+returns : tie.Need-returns
 unfolding bits_of odd
 returns c =
     let above = c.before.before in
@@ -19,18 +19,18 @@ returns c =
     let a = word.before.before.args in
     edit_chosen a.self (λ first w k. packed (remove k (bits 64 w) ++ (first && odd a.self.high) ∷ []))
     (search rules) (λ t. search rules) (λ t. search rules)
-    word.either.ensures kept.word_remove.ensures c.before.either2.ensures c.either3.ensures
-    (λ h. remove_low a.self a.at h refl above.word_remove2.ensures)
+    word.either.ensures kept.word-remove.ensures c.before.either2.ensures c.either3.ensures
+    (λ h. remove_low a.self a.at h refl above.word-remove2.ensures)
     (λ h. remove_high a.self a.at (search rules) h refl)
 
-returns_2 : tie.Need_returns_2
+returns-2 : tie.Need-returns-2
 unfolding bits_of
-returns_2 c =
+returns-2 c =
     let a = c.before.args in
     remove_none a.self a.at (search rules) (search rules) (search rules)
 
-pub remove_spec : {M : Type 1} → statement M
-remove_spec =
+pub remove-spec : {M : Type 1} → statement M
+remove-spec =
     tie.close
     (tie.spec
-    (λ c κs. search rules) (λ c κs. search rules) (λ c κs. search rules) (λ c κs. search rules) (λ c κs. search rules) returns returns_2)
+    (λ c κs. search rules) (λ c κs. search rules) (λ c κs. search rules) (λ c κs. search rules) (λ c κs. search rules) returns returns-2)

@@ -5,9 +5,9 @@ use Rattle.bits.proofs.TwoWords.{split_both}
 use Rattle.bits.proofs.leaf.Leaf.split.Statement.{statement}
 use Rattle.bits.proofs.leaf.Leaf.split.Tie as tie
 
-returns : tie.Need_returns
+returns : tie.Need-returns
 unfolding bits_of
 returns c = split_both c.args.self (search rules) (search rules)
 
-pub split_spec : {M : Type 1} → statement M
-split_spec = tie.close (tie.spec returns)
+pub split-spec : {M : Type 1} → statement M
+split-spec = tie.close (tie.spec returns)

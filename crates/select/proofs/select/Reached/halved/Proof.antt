@@ -4,11 +4,11 @@ use Rattle.select.proofs.Search.{upper, lower}
 use Rattle.select.proofs.select.Reached.halved.Statement.{statement}
 use Rattle.select.proofs.select.Reached.halved.Tie as tie
 
-returns : tie.Need_returns
+returns : tie.Need-returns
 returns c = λ w k e f. upper f e (search rules)
 
-returns_2 : tie.Need_returns_2
-returns_2 c = λ w k e f. lower f e (search rules)
+returns-2 : tie.Need-returns-2
+returns-2 c = λ w k e f. lower f e (search rules)
 
-pub halved_spec : {M : Type 1} → statement M
-halved_spec = tie.close (tie.spec (λ c. search rules) (λ c. search rules) returns returns_2)
+pub halved-spec : {M : Type 1} → statement M
+halved-spec = tie.close (tie.spec (λ c. search rules) (λ c. search rules) returns returns-2)
