@@ -1,5 +1,7 @@
 // A leaf of two words with its edits, how many bits of a word are set, and one of two numbers. Bits count from the
 // lowest, and a word is the list of its bits.
+#![tactic(auto)]
+
 mod choice;
 mod count;
 mod leaf;

@@ -4,6 +4,8 @@
 // The files stdin and stdout beside src/ are what `bits_vectors sample stdin stdout` of the folder oracle makes.
 //
 // Proved: that it is safe and ends, and the libraries that it calls. Only run: that it hands on what they answer.
+#![tactic(auto)]
+
 ghost use Rattle.std.specs.Prelude.{◌+◌, ◌*◌, ◌≤◌, ◌<◌, length};
 ghost use Rattle.io.specs.Counts.{IsPrefixLen};
 

@@ -1,5 +1,7 @@
 // An order's three words and the two of its answer: the numbers of the orders, and what is answered. What the words ask
 // and what a plain list of marks answers is in specs/.
+#![tactic(auto)]
+
 mod answer;
 mod number;
 

@@ -2,6 +2,8 @@
 //
 // Proved: the library's `script::play`, which writes each line, and that the loop goes on with the place and the nodes
 // that a line leaves. Only run: that the bytes are read and handed on.
+#![tactic(auto)]
+
 ghost use Rattle.std.specs.Prelude.{◌≤◌, length};
 ghost use Rattle.orders.specs.Loop.{Plays};
 

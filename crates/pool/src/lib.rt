@@ -1,5 +1,7 @@
 // The nodes of a pool: six words each, read and written whole by their number, and the chain that the free ones form.
 // Of a tree only the limits are known here, and nothing above computes an address.
+#![tactic(auto)]
+
 mod chain;
 mod limits;
 mod node;

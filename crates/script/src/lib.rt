@@ -1,4 +1,6 @@
 // Operators' scripts, played line by line on one pool.
+#![tactic(auto)]
+
 mod playing;
 mod telling;
 

@@ -1,5 +1,7 @@
 // The calls as a C host sees them: words cross as a pointer and a count, and the answer comes back as two words, its
 // number and its value.
+#![tactic(auto)]
+
 ghost use Rattle.std.specs.Prelude.{◌≡◌};
 ghost use Rattle.spelunzone.specs.Reply.{Replies, Carries};
 ghost use Rattle.run.specs.Runs.{Ran};

@@ -1,4 +1,6 @@
 // Text in bytes: numbers as digits, read and put, and the fields of a line. Nothing here knows what a line asks for.
+#![tactic(auto)]
+
 mod fields;
 mod numbers;
 

@@ -1,5 +1,7 @@
 // The tree in the node words of a pool: asking it, along one path from the root. Its root and its length come in by
 // value; where they are kept is not known here.
+#![tactic(auto)]
+
 mod query;
 mod steps;
 

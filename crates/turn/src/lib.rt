@@ -1,4 +1,6 @@
 // Turns and balance, in place on the nodes of a pool. Nothing here knows a mark.
+#![tactic(auto)]
+
 mod balance;
 mod changed;
 mod turning;

@@ -1,5 +1,7 @@
 // A window in a pool of words: the trailer behind the nodes, and the calls check, build and values. Whoever serves
 // orders on it reads and writes the trailer here.
+#![tactic(auto)]
+
 mod calls;
 mod trailer;
 

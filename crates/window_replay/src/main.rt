@@ -15,6 +15,8 @@
 //
 // Proved: the program is safe and ends. That it hands on what the library answers is not proved, but run. The files
 // stdin and stdout beside src/ are what `window_vectors sample stdin stdout` of the folder oracle makes.
+#![tactic(auto)]
+
 ghost use Rattle.std.specs.Prelude.{◌+◌, ◌*◌, ◌≤◌};
 ghost use Rattle.std.proofs.Math.ListN as ListN;
 ghost use Rattle.window_replay.specs.Lists.{Shown};
