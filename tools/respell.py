@@ -70,7 +70,7 @@ def own():
     for path in files(".antt"):
         if not is_walk(path):
             code = code_of(read(path), "--")
-            out |= set(WORD.findall(code)) - taken(code)
+            out |= {m.group(0) for m in WORD.finditer(code) if m.start() == 0 or code[m.start() - 1] != "."} - taken(code)
     return out
 
 

@@ -56,7 +56,7 @@ leaf_waits {n = n} at total xs p filled =
       levels = refl;
       filled = filled;
       holds = p.here;
-      below = λ k q. ⊎_elim (λ e. omega arith) (λ none. absurd (Memᴰ.not_nil none)) (Memᴰ.cases_cons q);
+      below = λ k q. ⊎_elim (λ e. omega arith) (λ none. absurd (Memᴰ.not-nil none)) (Memᴰ.cases_cons q);
     }
 
 -- a tree that is not the rightmost stands as its item says

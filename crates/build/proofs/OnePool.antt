@@ -33,7 +33,7 @@ module _ (w w' : List ℕ) where
   tree_same : (t : Tree) → Holds w t → Holds w' t → (k : ℕ) → Memᴰ k (numbers t) → Same w w' k
   unfolding numbers
   tree_same (leaf n xs) p q k m =
-      ⊎_elim (λ e. told (Leaf (leaf_of xs)) e (λ b. let z : ◌≡◌ {A = ℕ} 0 1 = cc in omega arith) p q) (λ none. absurd (Memᴰ.not_nil none))
+      ⊎_elim (λ e. told (Leaf (leaf_of xs)) e (λ b. let z : ◌≡◌ {A = ℕ} 0 1 = cc in omega arith) p q) (λ none. absurd (Memᴰ.not-nil none))
       (Memᴰ.cases_cons m)
   tree_same (fork n l r) p q k m =
       ⊎_elim
@@ -42,7 +42,7 @@ module _ (w w' : List ℕ) where
       (Memᴰ.cases_cons m)
 
   chain_same : (end : ℕ) (ns : List ℕ) → Chained w end ns → Chained w' end ns → (k : ℕ) → Memᴰ k ns → Same w w' k
-  chain_same end [] p q k m = absurd (Memᴰ.not_nil m)
+  chain_same end [] p q k m = absurd (Memᴰ.not-nil m)
   chain_same end (n ∷ ns) p q k m =
       ⊎_elim
       (λ e. told (Free (first_of end ns)) e (λ b. let z : ◌≡◌ {A = ℕ} 0 1 = cc in omega arith) p.0 q.0)

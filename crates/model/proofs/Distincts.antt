@@ -22,7 +22,7 @@ distinct_second [] ns d = d
 distinct_second (m ∷ ms) ns d = distinct_second ms ns d.1
 
 pub distinct_apart : (ms ns : List ℕ) → Distinct (ms ++ ns) → (k : ℕ) → Memᴰ k ms → Memᴰ k ns → ⊥
-distinct_apart [] ns d k h l = Memᴰ.not_nil h
+distinct_apart [] ns d k h l = Memᴰ.not-nil h
 distinct_apart (m ∷ ms) ns d k h l =
     ⊎_elim (λ (e : k ≡ m). d.0 (Memᴰ.append_right ms (Memᴰ.cast (sym e) l))) (λ (h' : Memᴰ k ms). distinct_apart ms ns d.1 k h' l)
     (Memᴰ.cases_cons h)

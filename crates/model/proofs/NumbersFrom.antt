@@ -26,7 +26,7 @@ by_member (Memᴰ.tail h) p q = q h
 -- they lie from n on, below n + k
 pub numbers_from_bounds : (m n k : ℕ) → Memᴰ m (numbers_from n k) → (n ≤ m) × (m < n + k)
 unfolding numbers_from
-numbers_from_bounds m n zero h = absurd (Memᴰ.not_nil h)
+numbers_from_bounds m n zero h = absurd (Memᴰ.not-nil h)
 numbers_from_bounds m n (suc k) h = by_member h (λ e. omega arith) (λ later. omega (arith, numbers_from_bounds m (suc n) k later))
 
 -- and they are all that lie there

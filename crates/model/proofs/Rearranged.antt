@@ -56,6 +56,7 @@ hit_same k n e = rw (hit, eq-eqb k n e)
 -- a member occurs
 member_occurs : (k : ℕ) (ns : List ℕ) → Memᴰ k ns → 1 ≤ occurs k ns
 unfolding weigh
+member_occurs k [] x' = elim x' [ ]
 member_occurs k (n ∷ ns) (Memᴰ.head e) = omega (arith, hit_same k n e)
 member_occurs k (n ∷ ns) (Memᴰ.tail m) = omega (arith, member_occurs k ns m)
 

@@ -37,7 +37,7 @@ same_eq (m ∷ ms) (n ∷ ns) t =
 
 each : (rows : List Row) → T (agree rows) → (r : Row) → Memᴰ r rows → answer r.question ≡ r.given
 unfolding agree
-each [] t r m = absurd (Memᴰ.not_nil m)
+each [] t r m = absurd (Memᴰ.not-nil m)
 each (x ∷ xs) t r m =
     ⊎_elim (λ (e : r ≡ x). rw e (same_eq (answer x.question) x.given (left (same (answer x.question) x.given) (agree xs) t)))
     (λ k. each xs (right (same (answer x.question) x.given) (agree xs) t) r k) (Memᴰ.cases_cons m)

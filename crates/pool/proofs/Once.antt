@@ -25,7 +25,7 @@ pub record Unbroken (n : ℕ) (w : List ℕ) : Type 0 where
 
 -- a number stands in a list or not
 pub by_member : {P : Type 0} (k : ℕ) (ns : List ℕ) → (Memᴰ k ns → P) → ((Memᴰ k ns → ⊥) → P) → P
-by_member k [] p q = q Memᴰ.not_nil
+by_member k [] p q = q Memᴰ.not-nil
 by_member k (n ∷ ns) p q =
     by_test (eqb k n)
     (λ e. p (Memᴰ.head (eqb-true k n e)))

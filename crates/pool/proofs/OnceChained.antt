@@ -16,7 +16,7 @@ use Rattle.pool.proofs.Once.{Unbroken, by_member, its_node}
 
 -- at each of its numbers a chain has one node, whatever words hold it
 chain_node : (end : ℕ) (ns : List ℕ) (k : ℕ) → Memᴰ k ns → (x : Node) × (x ≡ broken → ⊥) × ((w : List ℕ) → Chained w end ns → node_at w k ≡ x)
-chain_node end [] k m = absurd (Memᴰ.not_nil m)
+chain_node end [] k m = absurd (Memᴰ.not-nil m)
 chain_node end (n ∷ ns) k m =
     ⊎_elim
     (λ e. (free (first_of end ns), (λ b. let z : ◌≡◌ {A = ℕ} 0 1 = cc in omega arith), λ w h. ap (node_at w) e ∙ h.0))

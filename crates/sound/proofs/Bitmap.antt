@@ -154,7 +154,7 @@ module _ (met : List ℕ) (n : ℕ) (here : n / 64 < length met) where
         yes = λ _. (
           some,
           record {
-            distinct = (Memᴰ.not_nil, tt);
+            distinct = (Memᴰ.not-nil, tt);
             room = λ k h. rw (Memᴰ.eq_of_singleton h) (omega arith);
             unmet = λ k h. rw (Memᴰ.eq_of_singleton h) (met_word n refl ∙ even_is _ clear);
           },

@@ -37,7 +37,7 @@ module _ (w : List ℕ) where
   rest_from : (k : ℕ) (ns : List ℕ) → Chained w (nodes_in w) ns → Memᴰ k ns
       → (ks : List ℕ) × Chained w (nodes_in w) ks × (first_of (nodes_in w) ks ≡ k) × (length ks ≤ length ns)
   unfolding first_of
-  rest_from k [] h m = absurd (Memᴰ.not_nil m)
+  rest_from k [] h m = absurd (Memᴰ.not-nil m)
   rest_from k (n ∷ ns) h m =
       ⊎_elim
       (λ (e : k ≡ n). (n ∷ ns, h, sym e, omega arith))

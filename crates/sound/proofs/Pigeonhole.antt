@@ -16,7 +16,7 @@ use Rattle.model.proofs.NumbersFrom.{numbers_from_length, numbers_more}
 use Rattle.model.proofs.Rearranged.{rearranged_length, weigh_append}
 
 member_or_not : (k : ℕ) (ns : List ℕ) → Memᴰ k ns ⊎ (Memᴰ k ns → ⊥)
-member_or_not k [] = inr Memᴰ.not_nil
+member_or_not k [] = inr Memᴰ.not-nil
 member_or_not k (n ∷ ns) =
     by_test (eqb k n)
     (λ e. inl (Memᴰ.head (eqb-true k n e)))

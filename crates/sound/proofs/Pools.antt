@@ -53,7 +53,7 @@ unmet n k = rw (met_at, zeros n (k / 64), zero-div (2 ^ (k % 64)))
 tree_below : (w : List ℕ) (t : Tree) → Holds w t → (k : ℕ) → Memᴰ k (numbers t) → k < nodes_in w
 unfolding numbers
 tree_below w (Tree.leaf n xs) h k m =
-    ⊎_elim (λ (e : k ≡ n). let low = leaf_says w n (leaf_of xs) h in omega (arith, low.0)) (λ l. absurd (Memᴰ.not_nil l))
+    ⊎_elim (λ (e : k ≡ n). let low = leaf_says w n (leaf_of xs) h in omega (arith, low.0)) (λ l. absurd (Memᴰ.not-nil l))
     (Memᴰ.cases_cons m)
 tree_below w (Tree.fork n l r) h k m =
     ⊎_elim
@@ -62,7 +62,7 @@ tree_below w (Tree.fork n l r) h k m =
     (Memᴰ.cases_cons m)
 
 chain_below : (w : List ℕ) (end : ℕ) (ns : List ℕ) → Chained w end ns → (k : ℕ) → Memᴰ k ns → k < nodes_in w
-chain_below w end [] h k m = absurd (Memᴰ.not_nil m)
+chain_below w end [] h k m = absurd (Memᴰ.not-nil m)
 chain_below w end (n ∷ ns) h k m =
     ⊎_elim (λ (e : k ≡ n). let low = free_says w n (first_of end ns) h.0 in omega (arith, low.0)) (chain_below w end ns h.1 k)
     (Memᴰ.cases_cons m)
@@ -79,7 +79,7 @@ tree_taken w (Tree.fork n l r) h k m j e =
     (Memᴰ.cases_cons m)
 
 chain_free : (w : List ℕ) (end : ℕ) (ns : List ℕ) → Chained w end ns → (k : ℕ) → Memᴰ k ns → (j : ℕ) × (node_at w k ≡ free j)
-chain_free w end [] h k m = absurd (Memᴰ.not_nil m)
+chain_free w end [] h k m = absurd (Memᴰ.not-nil m)
 chain_free w end (n ∷ ns) h k m =
     ⊎_elim (λ (e : k ≡ n). (first_of end ns, ap (node_at w) e ∙ h.0)) (chain_free w end ns h.1 k) (Memᴰ.cases_cons m)
 
