@@ -2,12 +2,8 @@
 use borrow.Author.Rules.{rules}
 use Rattle.bits.specs.Leaf.{bits_of}
 use Rattle.bits.proofs.TwoWords.{split_both}
-use Rattle.bits.proofs.leaf.Leaf.split.Statement.{statement}
-use Rattle.bits.proofs.leaf.Leaf.split.Tie as tie
+use Rattle.bits.proofs.leaf.Leaf.split.Goals as goal
 
-returns : tie.Need-returns
+pub returns : goal.returns
 unfolding bits_of
 returns c = split_both c.args.self (search rules) (search rules)
-
-pub split-spec : {M : Type 1} → statement M
-split-spec = tie.close (tie.spec returns)

@@ -7,30 +7,23 @@ use Rattle.model.specs.Marks.{remove}
 use Rattle.model.specs.Word.{bits, odd}
 use Rattle.bits.specs.Leaf.{bits_of, packed}
 use Rattle.bits.proofs.TwoWords.{edit_chosen, remove_low, remove_high, remove_none}
-use Rattle.bits.proofs.leaf.Leaf.remove.Statement.{statement}
-use Rattle.bits.proofs.leaf.Leaf.remove.Tie as tie
+use Rattle.bits.proofs.leaf.Leaf.remove.Goals as goal
 
-returns : tie.Need-returns
+pub returns-then-at-lt-BLOCK_BITS : goal.returns-then-at-lt-BLOCK_BITS
 unfolding bits_of odd
-returns c =
-    let above = c.before.before in
-    let kept = above.before in
-    let word = kept.before.before in
-    let a = word.before.before.args in
+returns-then-at-lt-BLOCK_BITS c =
+    let above = c in
+    let kept = above in
+    let word = kept in
+    let a = word.args in
     edit_chosen a.self (λ first w k. packed (remove k (bits 64 w) ++ (first && odd a.self.high) ∷ []))
     (search rules) (λ t. search rules) (λ t. search rules)
-    word.either.ensures kept.word-remove.ensures c.before.either2.ensures c.either3.ensures
-    (λ h. remove_low a.self a.at h refl above.word-remove2.ensures)
+    word.either-word.ensures kept.word_remove-kept.ensures c.either.ensures c.either-then-at-lt-BLOCK_BITS.ensures
+    (λ h. remove_low a.self a.at h refl above.word_remove-above.ensures)
     (λ h. remove_high a.self a.at (search rules) h refl)
 
-returns-2 : tie.Need-returns-2
+pub returns : goal.returns
 unfolding bits_of
-returns-2 c =
-    let a = c.before.args in
+returns c =
+    let a = c.args in
     remove_none a.self a.at (search rules) (search rules) (search rules)
-
-pub remove-spec : {M : Type 1} → statement M
-remove-spec =
-    tie.close
-    (tie.spec
-    (λ c κs. search rules) (λ c κs. search rules) (λ c κs. search rules) (λ c κs. search rules) (λ c κs. search rules) returns returns-2)
