@@ -6,8 +6,7 @@ use lib.Bits.{bit_and, and_le_l, and_le_r}
 use Rattle.select.specs.Fields.{field_counts}
 use Rattle.select.specs.Select.{sums_of}
 use Rattle.select.proofs.Fields.{repeated, twice, pairs_counted, halves_counted, bytes_counted}
-use Rattle.select.proofs.select.masked_sums.Statement.{statement}
-use Rattle.select.proofs.select.masked_sums.Tie as tie
+use Rattle.select.proofs.select.masked_sums.Goals as goal
 
 -- the program's three sums
 abbrev pairs-sum : ℕ → ℕ
@@ -29,24 +28,21 @@ bytes-are : (w : ℕ) → bit_and (field_counts 4 16 w + field_counts 4 16 w / 1
 unfolding repeated twice
 bytes-are w = bytes_counted 8 w
 
-sub-pairs : tie.Need-overflow-sub-pairs
-sub-pairs c = omega (arith, and_le_l c.args.value 0xaaaa_aaaa_aaaa_aaaa)
+pub overflow_sub-pairs : goal.overflow_sub-pairs
+overflow_sub-pairs c = omega (arith, and_le_l c.args.value 0xaaaa_aaaa_aaaa_aaaa)
 
 -- a mask bounds what it lets through
 halves_small : (x : ℕ) → halves-sum x ≤ 2 * 0x3333_3333_3333_3333
 halves_small x = omega (arith, and_le_r x 0x3333_3333_3333_3333, and_le_r (x / 4) 0x3333_3333_3333_3333)
 
-add-halves : tie.Need-overflow-add-halves
-add-halves c = omega (arith, halves_small (pairs-sum c.args.value))
+pub overflow_add-halves : goal.overflow_add-halves
+overflow_add-halves c = omega (arith, halves_small (pairs-sum c.args.value))
 
-add-bytes : tie.Need-overflow-add-bytes
-add-bytes c = omega (arith, halves_small (pairs-sum c.args.value))
+pub overflow_add-bytes : goal.overflow_add-bytes
+overflow_add-bytes c = omega (arith, halves_small (pairs-sum c.args.value))
 
-returns : tie.Need-returns
+pub returns : goal.returns
 unfolding sums_of
 returns c =
     let w : ℕ = c.args.value in
     rw (pairs-are w c.ranges.value.fits, halves_are w, bytes-are w)
-
-pub masked-sums-spec : {M : Type 1} → statement M
-masked-sums-spec = tie.close (tie.spec sub-pairs add-halves add-bytes returns)
