@@ -2,12 +2,11 @@
 use native.Mathlib.Numerals.{add-one}
 use borrow.Author.Rules.{rules}
 use Prim.Native.Nat.{◌*◌, ◌/◌}
-use Rattle.build.proofs.building.row_above.Statement.{statement}
-use Rattle.build.proofs.building.row_above.Tie as tie
+use Rattle.build.proofs.building.row_above.Goals as goal
 
-returns : tie.Need-returns
+pub returns : goal.returns
 returns c =
-    let a = c.before.before.before.args in
+    let a = c.args in
     λ j. record {
       first = a.next;
       total = a.row.total * 2;
@@ -15,6 +14,3 @@ returns c =
       count = a.row.count / 2;
       last = a.last;
     }
-
-pub row-above-spec : {M : Type 1} → statement M
-row-above-spec = tie.close (tie.spec (λ c. search rules) (λ c. search rules) returns)

@@ -13,16 +13,13 @@ use Rattle.model.proofs.Rounds.{leaf_count_some}
 use Rattle.pool.specs.Node.{nodes_in}
 use Rattle.build.proofs.LeafMarks.{marks_of_length}
 use Rattle.build.proofs.WholeBuild.{stands}
-use Rattle.build.proofs.building.build.Statement.{statement}
-use Rattle.build.proofs.building.build.Tie as tie
+use Rattle.build.proofs.building.build.Goals as goal
 
-rounds-requires : tie.Need-rounds-requires
-rounds-requires c κs =
-    let leaf-count-place = c.before.before.before.before.before in
-    let start = leaf-count-place.before.before.before in
-    let a = start.args in
-    let n = leaf-count-place.leaf_count in
-    let p = c.before.before.before.put-leaves in
+pub rounds-root-requires : goal.rounds-root-requires
+rounds-root-requires c =
+    let a = c.args in
+    let n = c.leaf_count-leaves in
+    let p = c.put_leaves-row in
     let some = leaf_count_some a.length in
     let e = n.ensures in
     let size = p.ensures.kept in
@@ -37,33 +34,24 @@ rounds-requires c κs =
       },
     )
 
-sub-chain-from : tie.Need-overflow-sub-chain-from
-sub-chain-from c =
-    let rounds = c.before.before.before in
-    let put-leaves = rounds.before.before.before.before in
-    let leaf-count-place = put-leaves.before.before in
-    let start = leaf-count-place.before.before.before in
+pub overflow_sub-leaves : goal.overflow_sub-leaves
+overflow_sub-leaves c =
     omega (
       arith,
       leaf_count_some
-          start.args.length,
-      leaf-count-place.leaf_count.ensures,
+          c.args.length,
+      c.leaf_count-leaves.ensures,
     )
 
-returns : tie.Need-returns
+pub returns : goal.returns
 returns c p f =
-    let nodes2 = c.before.before.before.before.before in
-    let rounds-place = nodes2.before in
-    let put-leaves-place = rounds-place.before.before.before.before in
-    let leaf-count-place = put-leaves-place.before.before in
-    let s = leaf-count-place.before.before.before in
-    let a = s.args in
-    let room = s.requires in
-    let k : ℕ = leaf-count-place.leaf_count.result in
-    let e = leaf-count-place.leaf_count.ensures in
-    let leaves = put-leaves-place.put-leaves in
-    let root = rounds-place.rounds in
-    let chain = c.before.before.chain-from in
+    let a = c.args in
+    let room = c.requires in
+    let k : ℕ = c.leaf_count-leaves.result in
+    let e = c.leaf_count-leaves.ensures in
+    let leaves = c.put_leaves-row in
+    let root = c.rounds-root in
+    let chain = c.chain_from-chain in
     let xs : List Bool = take a.length (marks_of a.words.now) in
     let all : length xs ≡ a.length =
     length-take-le a.length (marks_of a.words.now) (omega (arith, marks_of_length a.words.now, room.given)) in
@@ -78,10 +66,3 @@ returns c p f =
     (e ∙ ap leaf_count (sym all)) f (omega (arith, room.enough))
     (rw leaves.ensures.many at (root.ensures.done (reverse (built_leaves 0 k xs)) leaves.ensures.wait))
     (rw need at chain.ensures.below) (omega (arith, room.whole)) first many (rw (same, need) at chain.ensures.chain)
-
-pub build-spec : {M : Type 1} → statement M
-build-spec =
-    tie.close
-    (tie.spec
-    (λ c κs. search rules) (λ c κs. search rules) rounds-requires (λ c. search rules) sub-chain-from (λ c κs. search rules) (λ c. search rules)
-    returns)

@@ -12,34 +12,24 @@ use Rattle.model.proofs.Content.{size_marks}
 use Rattle.pool.specs.Node.{fork_cell, put}
 use Rattle.build.specs.Waiting.{fork_over}
 use Rattle.build.specs.declared.building.Item.{Item}
-use Rattle.build.proofs.building.joined.Statement.{statement}
-use Rattle.build.proofs.building.joined.Tie as tie
+use Rattle.build.proofs.building.joined.Goals as goal
 
 rank-all : (t : Tree) (n : ℕ) → size t ≡ n → rank true n (marks t) ≡ count true (marks t)
 unfolding rank
 rank-all t n e = ap (count true) (take_all n (marks t) (omega (arith, size_marks t)))
 
-rank-requires : tie.Need-rank-requires
-rank-requires c κs =
-    let p = c.before.before.requires in
+pub rank-ones-requires : goal.rank-ones-requires
+rank-ones-requires c =
+    let p = c.requires in
     (p.stands.tree, p.stands.rooted, p.stands.total, omega arith)
 
-returns : tie.Need-returns
+pub returns : goal.returns
 returns c =
-    let stored = c.before.before.before.before.before in
-    let counted = stored.before.before.before.before in
-    let a = counted.before.before.before.args in
+    let a = c.args in
     let item : ℕ → Item = λ h. record { node = a.n; total = a.left.total + a.right.total; height = h } in
     record {
       item = ap item c.above.ensures;
-      stored = λ s.
-          let ones = counted.rank.ensures s.tree s.rooted s.total ∙ rank-all s.tree a.left.total s.total in
-          stored.set_fork.ensures ∙ ap (λ (k : ℕ). put a.nodes.now a.n (fork_cell (fork_over a.left a.right k))) ones;
+      c = λ s.
+          let ones = c.rank-ones.ensures s.tree s.rooted s.total ∙ rank-all s.tree a.left.total s.total in
+          c.set_fork.ensures ∙ ap (λ (k : ℕ). put a.nodes.now a.n (fork_cell (fork_over a.left a.right k))) ones;
     }
-
-pub joined-spec : {M : Type 1} → statement M
-joined-spec =
-    tie.close
-    (tie.spec
-    rank-requires (λ c. search rules) (λ c. search rules) (λ c κs. search rules) (λ c. search rules) (λ c κs. search rules)
-    (λ c. search rules) returns)

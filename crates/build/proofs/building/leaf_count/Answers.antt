@@ -4,20 +4,16 @@ use native.Mathlib.Omega.{arith}
 use mathlib.Core.Path.{◌≡◌}
 use borrow.Author.Rules.{rules}
 use Rattle.model.specs.Build.{leaf_count}
-use Rattle.build.proofs.building.leaf_count.Statement.{statement}
-use Rattle.build.proofs.building.leaf_count.Tie as tie
+use Rattle.build.proofs.building.leaf_count.Goals as goal
 
 some-count : (n : ℕ) → (n ≡ 0 → ⊥) → (n - 1) / 64 + 1 ≡ leaf_count n
 unfolding leaf_count
 some-count zero h = absurd (omega arith)
 some-count (suc n) h = omega arith
 
-returns : tie.Need-returns
+pub returns-then-length-eq0 : goal.returns-then-length-eq0
 unfolding leaf_count
-returns c = rw c.if1.true
+returns-then-length-eq0 c = rw c.if-length-eq0.true
 
-returns-2 : tie.Need-returns-2
-returns-2 c = some-count c.before.args.length c.if1.false
-
-pub leaf-count-spec : {M : Type 1} → statement M
-leaf-count-spec = tie.close (tie.spec returns (λ c. search rules) (λ c. search rules) returns-2)
+pub returns : goal.returns
+returns c = some-count c.args.length c.if-length-eq0.false
