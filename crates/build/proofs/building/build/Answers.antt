@@ -60,9 +60,9 @@ returns c p f =
     let three = chain.ensures.kept in
     let first : chain.result.first ≡ 2 * k - 1 = omega (arith, chain.ensures.begin) in
     let many : chain.result.count ≡ nodes_in a.nodes.now - (2 * k - 1) = omega (arith, chain.ensures.many) in
-    let same : nodes_in root.new.0 ≡ nodes_in a.nodes.now = omega arith in
+    let same : nodes_in root.new.nodes ≡ nodes_in a.nodes.now = omega arith in
     let need : k * 2 - 1 ≡ 2 * k - 1 = omega arith in
-    stands root.new.0 chain.new.0 (nodes_in a.nodes.now) k xs _ p
+    stands root.new.nodes chain.new.nodes (nodes_in a.nodes.now) k xs _ p
     (e ∙ ap leaf_count (sym all)) f (omega (arith, room.enough))
     (rw leaves.ensures.many at (root.ensures.done (reverse (built_leaves 0 k xs)) leaves.ensures.wait))
     (rw need at chain.ensures.below) (omega (arith, room.whole)) first many (rw (same, need) at chain.ensures.chain)

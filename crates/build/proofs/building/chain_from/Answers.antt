@@ -15,8 +15,8 @@ loop-n-preserved c =
     (
       omega arith,
       omega arith,
-      one_freed c.set_Free.new.0 c.loop-n.invariant.2 (omega arith) (omega (arith, c.node_count-end.ensures))
-          c.set_Free.ensures,
+      one_freed c.set_free.new.nodes c.loop-n.invariant.2 (omega arith) (omega (arith, c.node_count-end.ensures))
+          c.set_free.ensures,
     )
 
 pub returns : goal.returns

@@ -29,7 +29,7 @@ returns c =
     let item : ℕ → Item = λ h. record { node = a.n; total = a.left.total + a.right.total; height = h } in
     record {
       item = ap item c.above.ensures;
-      c = λ s.
+      stored = λ s.
           let ones = c.rank-ones.ensures s.tree s.rooted s.total ∙ rank-all s.tree a.left.total s.total in
           c.set_fork.ensures ∙ ap (λ (k : ℕ). put a.nodes.now a.n (fork_cell (fork_over a.left a.right k))) ones;
     }

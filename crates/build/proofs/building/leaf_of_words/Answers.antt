@@ -20,6 +20,6 @@ returns c =
     let a = c.args in
     let ws : List ℕ = a.words.now in
     let here : a.i < length ws = omega arith in
-    c.first_Marks.ensures
+    c.first_marks.ensures
     ∙ ap (λ (n : ℕ). leaf_of (take n (bits 64 (get_or ws a.i 0)))) c.leaf_total-total.ensures
     ∙ ap leaf_of (sym (leaf_marks_word ws a.length a.i (omega arith) here))

@@ -42,11 +42,11 @@ loop-i-preserved c =
     let s = c.loop-i in
     let a = c.args in
     let p = c.set_leaf in
-    let size : count_of p.new.0 ≡ count_of s.nodes = p.auto.0 in
+    let size : count_of p.new.nodes ≡ count_of s.nodes = p.auto.nodes in
     let leaf : Leaf → List ℕ = λ l. put s.nodes s.i (leaf_cell l) in (
       omega arith,
       omega arith,
-      rw add-one (one_begun p.new.0 s.invariant.2 (all-marks a.words.now a.length a.leaves c.requires.given c.requires.all)
+      rw add-one (one_begun p.new.nodes s.invariant.2 (all-marks a.words.now a.length a.leaves c.requires.given c.requires.all)
           (omega arith) (omega arith) (p.ensures ∙ ap leaf c.leaf_of_words.ensures)),
     )
 

@@ -52,7 +52,7 @@ pub loop-i-preserved : goal.loop-i-preserved
 loop-i-preserved c =
     let s = c.loop-i in
     let j = c.joined in
-    let size : length j.new.0 ≡ length s.nodes = j.auto.0 in
+    let size : length j.new.nodes ≡ length s.nodes = j.auto.nodes in
     let forked = rw (c.waiting.ensures, c.waiting-in-loop-i.ensures) at j.ensures in (
       omega arith,
       omega arith,
@@ -80,7 +80,7 @@ returns-then-row-eq0 c =
     let s = c.loop-i in
     let a = c.args in
     let j = c.joined-then-row-eq0 in
-    let size : length j.new.0 ≡ length s.nodes = j.auto.0 in
+    let size : length j.new.nodes ≡ length s.nodes = j.auto.nodes in
     let kept = s.invariant.1 in
     let forked = rw c.waiting-right.ensures at j.ensures in
     let last : a.next + (a.row.count - a.row.count / 2) ≡ suc (a.next + s.i) = omega arith in
@@ -116,8 +116,8 @@ returns c =
     let a = c.args in
     let j = c.joined-pair in
     let k = c.joined-2 in
-    let size : length j.new.0 ≡ length s.nodes = j.auto.0 in
-    let again : length k.new.0 ≡ length j.new.0 = k.auto.0 in
+    let size : length j.new.nodes ≡ length s.nodes = j.auto.nodes in
+    let again : length k.new.nodes ≡ length j.new.nodes = k.auto.nodes in
     let kept = s.invariant.1 in
     let some = s.invariant.0 in
     let forked = rw (c.waiting-right.ensures, c.waiting-2.ensures) at j.ensures in
