@@ -1,0 +1,47 @@
+-- Each pass passes one link. Where no pass can, no chain stands in the words. Assumes nothing.
+use Prim.Native.Nat.{ℕ}
+use native.Mathlib.Omega.{arith}
+use mathlib.Core.Path.{◌≡◌, sym, ◌∙◌}
+use mathlib.Core.Bool.{false}
+use borrow.Author.Rules.{rules}
+use Rattle.pool.specs.Node.{nodes_in}
+use Rattle.pool.specs.declared.node.Node.TheVariants.{Free as free}
+use Rattle.model.specs.Says.{Says}
+use Rattle.sound.specs.Links.{Linked}
+use Rattle.sound.proofs.Answers.{no_leaf, no_fork, no_broken}
+use Rattle.sound.proofs.Chains.{Passed, passed_none, passed_more, passed_other, passed_all}
+use Rattle.sound.proofs.links.chain_sound.Goals as goal
+
+pub loop-left-init : goal.loop-left-init
+loop-left-init c = passed_none _ _ _ _
+
+pub returns-in-Leaf : goal.returns-in-Leaf
+returns-in-Leaf c =
+    let not_free : ((next : ℕ) → c.node_at.result ≡ free next → ⊥)
+        → let s = c.args in
+        Says (Linked s.nodes.now (nodes_in s.nodes.now) s.chain.first s.chain.count) false = λ other.
+        passed_other c.loop-left.invariant (λ next e. other next (c.node_at.ensures ∙ e)) (omega (arith, c.loop-left-test)) in
+    not_free (λ next e. no_leaf (sym c.in-Leaf.is ∙ e))
+
+pub returns-in-Fork : goal.returns-in-Fork
+returns-in-Fork c =
+    let not_free : ((next : ℕ) → c.node_at.result ≡ free next → ⊥)
+        → let s = c.args in
+        Says (Linked s.nodes.now (nodes_in s.nodes.now) s.chain.first s.chain.count) false = λ other.
+        passed_other c.loop-left.invariant (λ next e. other next (c.node_at.ensures ∙ e)) (omega (arith, c.loop-left-test)) in
+    not_free (λ next e. no_fork (sym c.in-Fork.is ∙ e))
+
+pub returns-in-Broken : goal.returns-in-Broken
+returns-in-Broken c =
+    let not_free : ((next : ℕ) → c.node_at.result ≡ free next → ⊥)
+        → let s = c.args in
+        Says (Linked s.nodes.now (nodes_in s.nodes.now) s.chain.first s.chain.count) false = λ other.
+        passed_other c.loop-left.invariant (λ next e. other next (c.node_at.ensures ∙ e)) (omega (arith, c.loop-left-test)) in
+    not_free (λ next e. no_broken (sym c.in-Broken.is ∙ e))
+
+pub loop-left-preserved : goal.loop-left-preserved
+loop-left-preserved c =
+    passed_more c.loop-left.invariant (sym c.node_at.ensures ∙ c.in-Free.is) (omega (arith, c.loop-left-test))
+
+pub returns : goal.returns
+returns c = rw c.node_count.ensures (passed_all c.loop-left.invariant (omega (arith, c.loop-left-test)))
