@@ -15,6 +15,7 @@ use Rattle.sound.specs.Part.{Agrees, Visited}
 use Rattle.sound.proofs.Answers.{never}
 use Rattle.sound.proofs.Parts.{Onward, onward_none, onward_more, visited_broken, visited_free, visited_met, visited_unfit, visited_untrue}
 use Rattle.sound.proofs.visit.+visit.Goals as goal
+use Rattle.sound.proofs.visit.+visit.Goals.{then-left-lt2, else-left-lt2}
 
 pub loop-levels-init : goal.loop-levels-init
 loop-levels-init t c = onward_none _ _ _ _ _ _ _ _
@@ -81,11 +82,14 @@ loop-levels-preserved t c =
     let m = c.meet.ensures.yes c.if-not-meet.false in
     let a = c.fork_fits.ensures.yes c.if-not-fork_fits.false in
     let f = c.in-Fork.fork in
-    let v : (length c.if-left-lt2.met ≡ length c.meet.new.met)
-        × Visited c.args.nodes.now leaf_least c.meet.new.met f.left f.left_total f.left_ones c.below-left.result
-        (c.loop-levels.room - 1) c.if-left-lt2.met c.if-left-lt2.room = ? in
+    let v : Visited c.args.nodes.now leaf_least c.meet.new.met f.left f.left_total f.left_ones c.below-left.result (c.loop-levels.room - 1)
+        c.if-left-lt2.met c.if-left-lt2.room =
+        elim c.if-left-lt2.branch
+        [ then-left-lt2 w ↦ rw (w.met-is, w.room-is) w.visit_leaf-room.ensures
+        | else-left-lt2 w ↦ rw (w.met-is, w.room-is) w.visit-room.ensures
+        ] in
     onward_more c.loop-levels.invariant m.0 m.1 m.2 f (sym c.node_at.ensures ∙ c.in-Fork.is) a
-    (omega (arith, c.below-left.ensures)) (omega (arith, c.below-right.ensures)) v.0 v.1
+    (omega (arith, c.below-left.ensures)) (omega (arith, c.below-right.ensures)) c.if-left-lt2.auto.met v
 
 pub returns-in-Leaf : goal.returns-in-Leaf
 returns-in-Leaf t c =
