@@ -15,49 +15,38 @@ loop-left-init c = down_none _ _ _
 
 pub returns-then-not-fork_fits : goal.returns-then-not-fork_fits
 returns-then-not-fork_fits c =
-    let fork-there :
-        node_at c.args.nodes.now c.loop-left.n ≡ fork c.in-Fork.fork = sym c.node_at.ensures ∙ c.in-Fork.is in
-    told_untrue c.loop-left.invariant c.in-Fork.fork (fork-there) _ refl
+    told_untrue c.loop-left.invariant c.in-Fork.fork (sym c.node_at.ensures ∙ c.in-Fork.is) _ refl
     (λ a. never (c.fork_fits.ensures.no a) c.if-not-fork_fits.true)
 
 pub overflow_sub-total : goal.overflow_sub-total
 overflow_sub-total c =
-    let agrees : let l = c.loop-left in
-        Agrees c.in-Fork.fork l.total c.in-Fork.fork.left_total l.left = c.fork_fits.ensures.yes c.if-not-fork_fits.false in
-    omega (arith, (agrees).marks)
+    let a = c.fork_fits.ensures.yes c.if-not-fork_fits.false in
+    omega (arith, a.marks)
 
 pub overflow_add-ones : goal.overflow_add-ones
 overflow_add-ones c =
-    let agrees : let l = c.loop-left in
-        Agrees c.in-Fork.fork l.total c.in-Fork.fork.left_total l.left = c.fork_fits.ensures.yes c.if-not-fork_fits.false in
-    let a = agrees in
+    let a = c.fork_fits.ensures.yes c.if-not-fork_fits.false in
     omega (arith, a.marks, a.ones, c.loop-left.invariant.fits, c.ranges.length.fits)
 
 pub overflow_sub-fork : goal.overflow_sub-fork
 overflow_sub-fork c =
-    let agrees : let l = c.loop-left in
-        Agrees c.in-Fork.fork l.total c.in-Fork.fork.left_total l.left = c.fork_fits.ensures.yes c.if-not-fork_fits.false in
-    omega (arith, (agrees).even)
+    let a = c.fork_fits.ensures.yes c.if-not-fork_fits.false in
+    omega (arith, a.even)
 
 pub below-left-requires : goal.below-left-requires
 below-left-requires c =
-    let agrees : let l = c.loop-left in
-        Agrees c.in-Fork.fork l.total c.in-Fork.fork.left_total l.left = c.fork_fits.ensures.yes c.if-not-fork_fits.false in
-    let a = agrees in (a.high, omega (arith, a.leans))
+    let a = c.fork_fits.ensures.yes c.if-not-fork_fits.false in
+    (a.high, omega (arith, a.leans))
 
 pub loop-left-smaller : goal.loop-left-smaller
 loop-left-smaller c =
-    let agrees : let l = c.loop-left in
-        Agrees c.in-Fork.fork l.total c.in-Fork.fork.left_total l.left = c.fork_fits.ensures.yes c.if-not-fork_fits.false in
-    omega (arith, (agrees).high, c.below-left.ensures)
+    let a = c.fork_fits.ensures.yes c.if-not-fork_fits.false in
+    omega (arith, a.high, c.below-left.ensures)
 
 pub loop-left-preserved : goal.loop-left-preserved
 loop-left-preserved c =
-    let agrees : let l = c.loop-left in
-        Agrees c.in-Fork.fork l.total c.in-Fork.fork.left_total l.left = c.fork_fits.ensures.yes c.if-not-fork_fits.false in
-    let fork-there :
-        node_at c.args.nodes.now c.loop-left.n ≡ fork c.in-Fork.fork = sym c.node_at.ensures ∙ c.in-Fork.is in
-    down_more c.loop-left.invariant c.in-Fork.fork (fork-there) (agrees)
+    let a = c.fork_fits.ensures.yes c.if-not-fork_fits.false in
+    down_more c.loop-left.invariant c.in-Fork.fork (sym c.node_at.ensures ∙ c.in-Fork.is) a
     (omega (arith, c.below-left.ensures))
 
 pub overflow_add-result : goal.overflow_add-result

@@ -17,27 +17,15 @@ loop-left-init c = passed_none _ _ _ _
 
 pub returns-in-Leaf : goal.returns-in-Leaf
 returns-in-Leaf c =
-    let not_free : ((next : ℕ) → c.node_at.result ≡ free next → ⊥)
-        → let s = c.args in
-        Says (Linked s.nodes.now (nodes_in s.nodes.now) s.chain.first s.chain.count) false = λ other.
-        passed_other c.loop-left.invariant (λ next e. other next (c.node_at.ensures ∙ e)) (omega (arith, c.loop-left-test)) in
-    not_free (λ next e. no_leaf (sym c.in-Leaf.is ∙ e))
+    passed_other c.loop-left.invariant (λ next e. no_leaf (sym c.in-Leaf.is ∙ c.node_at.ensures ∙ e)) (omega (arith, c.loop-left-test))
 
 pub returns-in-Fork : goal.returns-in-Fork
 returns-in-Fork c =
-    let not_free : ((next : ℕ) → c.node_at.result ≡ free next → ⊥)
-        → let s = c.args in
-        Says (Linked s.nodes.now (nodes_in s.nodes.now) s.chain.first s.chain.count) false = λ other.
-        passed_other c.loop-left.invariant (λ next e. other next (c.node_at.ensures ∙ e)) (omega (arith, c.loop-left-test)) in
-    not_free (λ next e. no_fork (sym c.in-Fork.is ∙ e))
+    passed_other c.loop-left.invariant (λ next e. no_fork (sym c.in-Fork.is ∙ c.node_at.ensures ∙ e)) (omega (arith, c.loop-left-test))
 
 pub returns-in-Broken : goal.returns-in-Broken
 returns-in-Broken c =
-    let not_free : ((next : ℕ) → c.node_at.result ≡ free next → ⊥)
-        → let s = c.args in
-        Says (Linked s.nodes.now (nodes_in s.nodes.now) s.chain.first s.chain.count) false = λ other.
-        passed_other c.loop-left.invariant (λ next e. other next (c.node_at.ensures ∙ e)) (omega (arith, c.loop-left-test)) in
-    not_free (λ next e. no_broken (sym c.in-Broken.is ∙ e))
+    passed_other c.loop-left.invariant (λ next e. no_broken (sym c.in-Broken.is ∙ c.node_at.ensures ∙ e)) (omega (arith, c.loop-left-test))
 
 pub loop-left-preserved : goal.loop-left-preserved
 loop-left-preserved c =

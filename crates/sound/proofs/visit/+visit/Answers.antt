@@ -57,9 +57,9 @@ overflow_sub-room-else-left-lt2 t c = omega (arith, (c.meet.ensures.yes c.if-not
 
 pub visit-room-requires : goal.visit-room-requires
 visit-room-requires t c =
+    let a = c.fork_fits.ensures.yes c.if-not-fork_fits.false in
     let falls = c.loop-levels.invariant.falls in
-    let high = (c.fork_fits.ensures.yes c.if-not-fork_fits.false).high in
-    (omega (arith, c.requires, c.below-left.ensures), omega (arith, c.requires, c.below-left.ensures))
+    (omega (arith, a.high, falls, c.below-left.ensures), omega (arith, a.high, falls, c.below-left.ensures, c.requires))
 
 pub overflow_sub-total : goal.overflow_sub-total
 overflow_sub-total t c =

@@ -14,17 +14,12 @@ returns-then-not-meet c = visited_met c.meet.ensures c.if-not-meet.true
 
 pub overflow_sub-result : goal.overflow_sub-result
 overflow_sub-result c =
-    let met-now :
-        let a = c.args in
-        (1 < a.room) × Fresh a.met.now (a.n ∷ []) × Marked a.met.now c.meet.new.met (a.n ∷ []) = c.meet.ensures.yes c.if-not-meet.false in
-    omega (arith, (met-now).0)
+    let m = c.meet.ensures.yes c.if-not-meet.false in
+    omega (arith, m.0)
 
 pub returns-then-leaf_fits : goal.returns-then-leaf_fits
 returns-then-leaf_fits c =
-    let met-now :
-        let a = c.args in
-        (1 < a.room) × Fresh a.met.now (a.n ∷ []) × Marked a.met.now c.meet.new.met (a.n ∷ []) = c.meet.ensures.yes c.if-not-meet.false in
-    let m = met-now in
+    let m = c.meet.ensures.yes c.if-not-meet.false in
     visited_leaf m.0 m.1 m.2 c.in-Leaf.leaf (sym c.node_at.ensures ∙ c.in-Leaf.is)
     (c.leaf_fits.ensures.yes c.if-leaf_fits.true)
 
