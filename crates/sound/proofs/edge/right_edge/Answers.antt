@@ -1,13 +1,9 @@
 -- Each pass goes down to the right child of a fork; a leaf ends the edge. Where there is neither, or the fork cannot be true, no tree stands at the
 -- root. Assumes nothing.
 use native.Mathlib.Omega.{arith}
-use mathlib.Core.Path.{◌≡◌, refl, sym, ◌∙◌}
-use borrow.Author.Rules.{rules}
-use Rattle.pool.specs.Node.{node_at}
-use Rattle.pool.specs.declared.node.Node.TheVariants.{Fork as fork}
-use Rattle.sound.specs.Part.{Agrees}
+use mathlib.Core.Path.{refl, sym, ◌∙◌}
 use Rattle.sound.proofs.Answers.{never}
-use Rattle.sound.proofs.Edges.{Down, down_none, down_more, rank_most, told_broken, told_free, told_leaf, told_long, told_untrue}
+use Rattle.sound.proofs.Edges.{down_none, down_more, rank_most, told_broken, told_free, told_leaf, told_long, told_untrue}
 use Rattle.sound.proofs.edge.right_edge.Goals as goal
 
 pub loop-left-init : goal.loop-left-init

@@ -3,7 +3,6 @@
 use Prim.Native.Nat.{◌+◌, ◌-◌}
 use native.Mathlib.Omega.{arith}
 use Rattle.sound.proofs.Pools.{Seen, judged_chain, judged_long, judged_none}
-use borrow.Author.Rules.{rules}
 use Rattle.sound.proofs.judge.sound.Goals as goal
 
 pub returns-then-count-chain : goal.returns-then-count-chain
@@ -19,36 +18,34 @@ visit-rest-requires c =
 
 pub returns-then-rest-eq1 : goal.returns-then-rest-eq1
 returns-then-rest-eq1 c =
-    let seen : let s = c.args in
-        Seen s.nodes.now s.root s.length s.chain c.visit-rest.result =
-        record {
-          words = c.requires.0;
-          most = c.requires.1;
-          edge = c.right_edge-edge.result;
-          told = c.right_edge-edge.ensures;
-          room = c.node_count-count.result - c.args.chain.count + 1;
-          fits = omega (arith, c.node_count-count.ensures, c.if-count-chain);
-          least = _;
-          low = c.least_of-least.ensures;
-          met = _;
-          visited = c.visit-rest.ensures;
-        } in
-    judged_chain (seen) c.if-rest-eq1.true c.chain_sound.ensures
+    let seen : Seen c.args.nodes.now c.args.root c.args.length c.args.chain c.visit-rest.result =
+    record {
+      words = c.requires.0;
+      most = c.requires.1;
+      edge = c.right_edge-edge.result;
+      told = c.right_edge-edge.ensures;
+      room = c.node_count-count.result - c.args.chain.count + 1;
+      fits = omega (arith, c.node_count-count.ensures, c.if-count-chain);
+      least = _;
+      low = c.least_of-least.ensures;
+      met = _;
+      visited = c.visit-rest.ensures;
+    } in
+    judged_chain seen c.if-rest-eq1.true c.chain_sound.ensures
 
 pub returns : goal.returns
 returns c =
-    let seen : let s = c.args in
-        Seen s.nodes.now s.root s.length s.chain c.visit-rest.result =
-        record {
-          words = c.requires.0;
-          most = c.requires.1;
-          edge = c.right_edge-edge.result;
-          told = c.right_edge-edge.ensures;
-          room = c.node_count-count.result - c.args.chain.count + 1;
-          fits = omega (arith, c.node_count-count.ensures, c.if-count-chain);
-          least = _;
-          low = c.least_of-least.ensures;
-          met = _;
-          visited = c.visit-rest.ensures;
-        } in
-    judged_none (seen) c.if-rest-eq1.false
+    let seen : Seen c.args.nodes.now c.args.root c.args.length c.args.chain c.visit-rest.result =
+    record {
+      words = c.requires.0;
+      most = c.requires.1;
+      edge = c.right_edge-edge.result;
+      told = c.right_edge-edge.ensures;
+      room = c.node_count-count.result - c.args.chain.count + 1;
+      fits = omega (arith, c.node_count-count.ensures, c.if-count-chain);
+      least = _;
+      low = c.least_of-least.ensures;
+      met = _;
+      visited = c.visit-rest.ensures;
+    } in
+    judged_none seen c.if-rest-eq1.false

@@ -1,15 +1,8 @@
 -- Each pass passes one link. Where no pass can, no chain stands in the words. Assumes nothing.
-use Prim.Native.Nat.{ℕ}
 use native.Mathlib.Omega.{arith}
-use mathlib.Core.Path.{◌≡◌, sym, ◌∙◌}
-use mathlib.Core.Bool.{false}
-use borrow.Author.Rules.{rules}
-use Rattle.pool.specs.Node.{nodes_in}
-use Rattle.pool.specs.declared.node.Node.TheVariants.{Free as free}
-use Rattle.model.specs.Says.{Says}
-use Rattle.sound.specs.Links.{Linked}
+use mathlib.Core.Path.{sym, ◌∙◌}
 use Rattle.sound.proofs.Answers.{no_leaf, no_fork, no_broken}
-use Rattle.sound.proofs.Chains.{Passed, passed_none, passed_more, passed_other, passed_all}
+use Rattle.sound.proofs.Chains.{passed_none, passed_more, passed_other, passed_all}
 use Rattle.sound.proofs.links.chain_sound.Goals as goal
 
 pub loop-left-init : goal.loop-left-init

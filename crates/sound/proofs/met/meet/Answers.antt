@@ -1,6 +1,5 @@
 -- The bit is set where it was clear and there is room. Assumes nothing.
 use Prim.Native.Nat.{◌%◌}
-use borrow.Author.Rules.{rules}
 use native.Mathlib.Omega.{arith}
 use Rattle.bits.proofs.Packed.{one_shl}
 use Rattle.sound.proofs.Bitmap.{meet_full, meet_yes, meet_no, meet_out}

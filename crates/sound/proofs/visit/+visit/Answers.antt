@@ -1,19 +1,12 @@
 -- A visit of the subtree at a number: while more than one level is claimed its node is met and read, its left child is visited and the loop goes on
 -- with its right child, so that what is answered from there on is what is answered from the start; in the end a leaf is visited. Assumes nothing.
-use Prim.Native.Nat.{ℕ, ◌-◌, ◌<◌}
+use Prim.Native.Nat.{◌-◌}
 use native.Mathlib.Omega.{arith}
-use mathlib.Core.Path.{◌≡◌, sym, ◌∙◌}
-use mathlib.Core.List.{[], ◌∷◌}
-use borrow.Author.Rules.{rules}
-use lib.ListN.{length}
-use mathlib.Core.Logic.{⊎_elim}
+use mathlib.Core.Path.{sym, ◌∙◌}
 use Rattle.model.specs.Edit.{leaf_least}
-use Rattle.pool.specs.Node.{node_at}
-use Rattle.pool.specs.declared.node.Node.TheVariants.{Leaf as leaf, Fork as fork}
-use Rattle.sound.specs.Met.{Fresh, Marked}
-use Rattle.sound.specs.Part.{Agrees, Visited}
+use Rattle.sound.specs.Part.{Visited}
 use Rattle.sound.proofs.Answers.{never}
-use Rattle.sound.proofs.Parts.{Onward, onward_none, onward_more, visited_broken, visited_free, visited_met, visited_unfit, visited_untrue}
+use Rattle.sound.proofs.Parts.{onward_none, onward_more, visited_broken, visited_free, visited_met, visited_unfit, visited_untrue}
 use Rattle.sound.proofs.visit.+visit.Goals as goal
 use Rattle.sound.proofs.visit.+visit.Goals.{then-left-lt2, else-left-lt2}
 
@@ -83,11 +76,11 @@ loop-levels-preserved t c =
     let a = c.fork_fits.ensures.yes c.if-not-fork_fits.false in
     let f = c.in-Fork.fork in
     let v : Visited c.args.nodes.now leaf_least c.meet.new.met f.left f.left_total f.left_ones c.below-left.result (c.loop-levels.room - 1)
-        c.if-left-lt2.met c.if-left-lt2.room =
-        elim c.if-left-lt2.branch
-        [ then-left-lt2 w ↦ rw (w.met-is, w.room-is) w.visit_leaf-room.ensures
-        | else-left-lt2 w ↦ rw (w.met-is, w.room-is) w.visit-room.ensures
-        ] in
+    c.if-left-lt2.met c.if-left-lt2.room =
+    elim c.if-left-lt2.branch [
+      | then-left-lt2 w ↦ rw (w.met-is, w.room-is) w.visit_leaf-room.ensures
+      | else-left-lt2 w ↦ rw (w.met-is, w.room-is) w.visit-room.ensures
+    ] in
     onward_more c.loop-levels.invariant m.0 m.1 m.2 f (sym c.node_at.ensures ∙ c.in-Fork.is) a
     (omega (arith, c.below-left.ensures)) (omega (arith, c.below-right.ensures)) c.if-left-lt2.auto.met v
 

@@ -1,5 +1,4 @@
 -- A leaf that is not changed by a cut has nothing past it. Assumes nothing.
-use borrow.Author.Rules.{rules}
 use native.Mathlib.Omega.{arith}
 use mathlib.Core.Path.{ap, sym, ◌∙◌}
 use Rattle.bits.specs.declared.leaf.Leaf.{Leaf}

@@ -1,10 +1,6 @@
 -- A visit of a leaf: its node is met and read, and a leaf is held to what is claimed of it; a fork would have two levels. Assumes nothing.
-use Prim.Native.Nat.{◌<◌}
 use native.Mathlib.Omega.{arith}
 use mathlib.Core.Path.{sym, ◌∙◌}
-use mathlib.Core.List.{[], ◌∷◌}
-use borrow.Author.Rules.{rules}
-use Rattle.sound.specs.Met.{Fresh, Marked}
 use Rattle.sound.proofs.Answers.{never}
 use Rattle.sound.proofs.Parts.{visited_broken, visited_free, visited_leaf, visited_met, visited_unfit, visited_untrue}
 use Rattle.sound.proofs.visit.visit_leaf.Goals as goal
