@@ -8,7 +8,6 @@ use mathlib.Core.List.{List, [], ◌∷◌, ◌++◌}
 use lib.ListN.{length, length-append}
 use Rattle.model.specs.Marks.{count}
 use Rattle.model.specs.Edit.{leaf_least}
-use Rattle.model.specs.Tree as Tree
 use Rattle.model.specs.Tree.{Tree, top, marks, size, height, numbers}
 use Rattle.model.proofs.Counting.{count_append}
 use Rattle.bits.specs.Leaf.{leaf_of}

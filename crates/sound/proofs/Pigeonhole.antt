@@ -33,6 +33,7 @@ record Without (n : ℕ) (ks : List ℕ) : Type 0 where
 
 without : (n : ℕ) (ks : List ℕ) → Distinct ks → Memᴰ n ks → Without n ks
 unfolding weigh
+without n [] d h = elim h [ ]
 without n (k ∷ ks) d (Memᴰ.head e) =
     record {
       less = ks;

@@ -12,7 +12,6 @@ use lib.ListN.{length, get_or, replicate, length-append}
 use Rattle.model.specs.Pool.{Pool, numbers_from}
 use Rattle.model.specs.Marks.{count}
 use Rattle.model.specs.Sound.{Distinct, Sized, Whole, all_numbers}
-use Rattle.model.specs.Tree as Tree
 use Rattle.model.specs.Tree.{Tree, marks, height, numbers}
 use Rattle.model.specs.Word.{odd}
 use Rattle.model.specs.Limits.{most_nodes}
