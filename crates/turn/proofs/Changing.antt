@@ -7,7 +7,7 @@ use mathlib.Core.List.Memᴰ
 use mathlib.Core.List.{List, Memᴰ}
 use mathlib.Core.Logic.{⊎_elim}
 use lib.IntN.{ℤ}
-use Rattle.model.specs.Tree.{Tree, fork, size, height, numbers}
+use Rattle.model.specs.Tree.{Tree, fork, height, numbers}
 use Rattle.model.specs.Turn as Turn
 use Rattle.pool.specs.Layout.{Holds, fork_of}
 use Rattle.pool.specs.Node.{fork_cell, fork_in, node_at, put, Put}

@@ -1,12 +1,11 @@
 -- The fork of one tree on a side and of another on the other side. What is said of it here is said once for both sides, and what is said elsewhere
 -- by it has no sides.
-use Prim.Native.Nat.{ℕ, suc, ◌+◌, ◌-◌, ◌≤◌, max}
+use Prim.Native.Nat.{ℕ, suc, ◌+◌, ◌≤◌, max}
 use native.Mathlib.Omega.{arith}
 use mathlib.Core.Path.{◌≡◌, refl, ap}
 use mathlib.Core.Bool.{Bool, true, false}
 use mathlib.Core.List.{List, ◌∷◌, ◌++◌}
 use Rattle.model.specs.Sound.{Balanced, Rearranged}
-use Rattle.model.specs.Tree as Tree
 use Rattle.model.specs.Tree.{Tree, fork, leaf, top, size, height, numbers}
 use Rattle.model.specs.Turn.{turn_left, turn_right}
 use Rattle.model.proofs.Rearranged.{weigh, weigh_append}

@@ -1,6 +1,6 @@
 -- An edit of a child and of the free chain is an edit of the fork above it. The numbers of a fork and of the chain stand once in them, so what is put
 -- at a child's numbers and at the chain's leaves the other child; and the fork, once it counts what the child holds now, only leans as before.
-use Prim.Native.Nat.{ℕ, suc, ◌+◌, ◌-◌, ◌≤◌, ◌<◌, ◌^◌, max}
+use Prim.Native.Nat.{ℕ, suc, ◌-◌, ◌≤◌, ◌<◌, ◌^◌, max}
 use native.Mathlib.Omega.{arith}
 use mathlib.Core.Path.{◌≡◌, refl, sym, subst, ◌∙◌}
 use mathlib.Core.Bool.{Bool, true, false}
@@ -9,7 +9,6 @@ use mathlib.Core.List.{List, ◌∷◌, ◌++◌, Memᴰ}
 use lib.IntN.{ℤ, pos}
 use lib.ListN.{length}
 use Rattle.model.specs.Sound.{Balanced, Sized, Distinct, Rearranged}
-use Rattle.model.specs.Tree as Tree
 use Rattle.model.specs.Tree.{Tree, fork, top, size, height, numbers}
 use Rattle.model.specs.Turn.{rebalance}
 use Rattle.model.proofs.Balance.{rebalance_level}
@@ -22,7 +21,6 @@ use Rattle.pool.specs.Layout.{Holds, Chained, Rooted, first_of, fork_of}
 use Rattle.pool.specs.Node.{node_at, Put}
 use Rattle.pool.specs.declared.node.Fork.{Fork}
 use Rattle.pool.specs.declared.node.Node.{Node}
-use Rattle.pool.specs.declared.node.Node.TheVariants as Node
 use Rattle.pool.proofs.Standing.{holds_same, chained_same, by_leaf, by_fork, left_rooted, right_rooted}
 use Rattle.turn.specs.Apart.{Apart}
 use Rattle.model.specs.Side.{side}

@@ -1,10 +1,9 @@
 -- A tree and the free chain beside it in the same words, before an edit and after it.
-use Rattle.std.specs.Prelude.{ℕ, suc, ◌+◌, ◌-◌, ◌≤◌, ◌<◌, ◌^◌, max, ◌≡◌, Bool, true, false, List, ◌++◌, ℤ}
+use Rattle.std.specs.Prelude.{ℕ, suc, ◌+◌, ◌-◌, ◌≤◌, ◌<◌, ◌^◌, max, ◌≡◌, Bool, true, List, ◌++◌, ℤ}
 use Rattle.model.specs.Side.{side}
 use Rattle.model.specs.Marks.{count}
 use Rattle.model.specs.Sound.{Balanced, Distinct, Whole}
 use Rattle.model.specs.Tree.{Tree, top, marks, size, height, numbers}
-use Rattle.model.specs.Tree as Tree
 use Rattle.model.specs.Turn.{rebalance}
 use Rattle.pool.specs.Layout.{Holds, Chained, Rooted, Edited, first_of}
 use Rattle.pool.specs.Node.{node_at}
