@@ -4,7 +4,7 @@ use Prim.Native.Nat.{ℕ, zero, suc, ◌+◌, ◌*◌, ◌/◌, ◌^◌, ◌≤�
 use native.Mathlib.Nat.{add-zero, pow-suc}
 use native.Mathlib.Numerals.{add-one}
 use native.Mathlib.Omega.{arith}
-use mathlib.Core.Path.{◌≡◌, refl, ap, ◌∙◌}
+use mathlib.Core.Path.{subst, sym, ◌≡◌, refl, ap, ◌∙◌}
 use mathlib.Core.Bool.{true}
 use mathlib.Core.List.{List, [], ◌∷◌, reverse_aux}
 use lib.ListN.{length}
@@ -217,9 +217,16 @@ module _ {w : List ℕ} {next : ℕ} {r : Row} {i : ℕ} {ts : List Tree} (level
           whole = rw next_is p.whole;
           many = ap suc many;
           left = omega (arith, p.left);
-          new = rw (next_is, many)
-              (rw is at j.made, made_kept w w' n (suc n) j.kept (omega arith) (item_at (row_above r next r.last)) done p.new);
-          trees = rw (next_is, at) (along_kept w w' n (suc n) j.kept (omega arith) r (suc (suc (i * 2))) (c ∷ d ∷ more) p.trees.1.1);
+          new =
+              let item = item_at (row_above r next r.last) in
+              let made : Waits w' (suc n) (length done) (fork n b a) (item (length done)) = rw many (rw is at j.made) in
+              subst (λ (k : ℕ). Made w' k item (fork n b a ∷ done)) (sym next_is)
+              (made, made_kept w w' n (suc n) j.kept (omega arith) item done p.new);
+          trees =
+              let along : Along w' (suc n) r (suc (suc (i * 2))) (c ∷ d ∷ more) =
+              along_kept w w' n (suc n) j.kept (omega arith) r (suc (suc (i * 2))) (c ∷ d ∷ more) p.trees.1.1 in
+              subst (λ (k : ℕ). Along w' k r (suc i * 2) (c ∷ d ∷ more)) (sym next_is)
+              (subst (λ (m : ℕ). Along w' (suc n) r m (c ∷ d ∷ more)) (sym at) along);
         },
       )
 
