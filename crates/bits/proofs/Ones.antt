@@ -13,4 +13,4 @@ pub counted : (n w : ℕ) → w < 2 ^ n → Count.ones w ≡ ones (bits n w)
 counted n w h = ap Count.ones (sym (mod-eq_of_lt h)) ∙ sym (ones_bits n w)
 
 pub fits_count : (n w : ℕ) → w < 2 ^ n → n < 2 ^ 64 → Fits w64 (Count.ones w)
-fits_count n w h l = record { fits = lt_of_le_of_lt (Count.ones_le n w h) l }
+fits_count n w h l = record { fits = lt_of_le_of_lt (Count.ones-le n w h) l }

@@ -10,13 +10,13 @@ use crate::choice::either;
 use crate::count::ones64;
 use crate::{BLOCK_BITS, TOP_BIT, WORD_BITS};
 
-#[derive(Drop)]
+#[derive(Clone, Copy)]
 pub struct Leaf {
     pub low: u64,
     pub high: u64,
 }
 
-#[derive(Drop)]
+#[derive(Clone, Copy)]
 pub struct Halves {
     pub left: Leaf,
     pub right: Leaf,

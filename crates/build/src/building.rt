@@ -21,7 +21,7 @@ use tree::rank;
 const LEAF_BUILT: u64 = 64;
 
 // A tree that waits to be joined: its top number, its marks and its height.
-#[derive(Drop)]
+#[derive(Clone, Copy)]
 struct Item {
     node: u64,
     total: u64,
@@ -31,7 +31,7 @@ struct Item {
 // The trees that wait for a round, so many of them, the rightmost first. All but the last are of one height and, but
 // for the first, of as many marks; the first has the number `first`, and the next ones' fall where they are leaves, and
 // rise where they are forks. The marks of the rightmost are never asked for, since it is no left child.
-#[derive(Drop)]
+#[derive(Clone, Copy)]
 struct Row {
     first: u64,
     total: u64,
@@ -40,7 +40,7 @@ struct Row {
     last: Item,
 }
 
-#[derive(Drop)]
+#[derive(Clone, Copy)]
 pub struct Built {
     pub root: u64,
     pub chain: Chain,

@@ -10,13 +10,13 @@ use lib.Dec.{eqb, leb, ltb}
 use lib.ListN.{length, take, drop, length-drop}
 use lib.Seq.{take_all}
 use borrow.Author.Tests.{eqb-true, le-ltb}
-use Rattle.bytes.specs.Bytes.{index_after, index_of}
+use Rattle.text.specs.Bytes.{index_after, index_of}
 use Rattle.model.proofs.Cases.{by_ltb, by_test}
 use Rattle.model.specs.Word.{digit}
 use Rattle.order.specs.Asked.{Asked, asks, with_bit}
 use Rattle.text.specs.Text.{fields}
 use Rattle.grammar.specs.Lines.{asks_with, hex_words, line_of, load_of, loading, named, no_field, one_number, order_with, ordering, two_numbers, wanted, wanted_of, Wanted}
-use Rattle.text.specs.Text.{all_digits, decimal, number_in, pieces, space, worth}
+use Rattle.text.specs.Text.{all_digits, decimal, number_in, space, worth}
 use Rattle.grammar.specs.declared.fields.Name.TheVariants.{Insert, Rank, Select}
 use Rattle.text.specs.declared.numbers.Number.{Number}
 use Rattle.text.specs.declared.numbers.Number.TheVariants.{Value, Nothing}

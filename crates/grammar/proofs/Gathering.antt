@@ -1,17 +1,17 @@
 -- The words of a load, gathered field by field: where a search for the next space has come to, and what was put in a row so far.
-use Prim.Native.Nat.{ℕ, zero, suc, ◌+◌, ◌-◌, ◌*◌, ◌≤◌, ◌<◌}
+use Prim.Native.Nat.{ℕ, ◌+◌, ◌-◌, ◌*◌, ◌≤◌, ◌<◌}
 use native.Mathlib.Numerals.{add-one}
 use native.Mathlib.Omega.{arith}
-use mathlib.Core.Path.{◌≡◌, refl, sym, ap, ap₂, ◌∙◌}
+use mathlib.Core.Path.{◌≡◌, refl, sym, ap, ◌∙◌}
 use mathlib.Core.List.{List, [], ◌∷◌, ◌++◌}
 use mathlib.Core.Option.{Option, none, some, bind}
-use lib.ListN.{length, take, drop, set, length-drop, length-set, length-take}
+use lib.ListN.{length, take, drop, set, length-drop, length-set}
 use lib.Seq.{append_snoc, drop-drop, length-take-le, take-length, take-suc-set}
-use Rattle.bytes.specs.Bytes.{index_of, slice}
+use Rattle.text.specs.Bytes.{index_of, slice}
 use Rattle.text.specs.Text.{fields}
 use Rattle.grammar.specs.Lines.{hex_words, WordsRead}
 use Rattle.text.specs.Text.{hex_word, space}
-use Rattle.text.specs.declared.numbers.Number.TheVariants.{Value, Nothing}
+use Rattle.text.specs.declared.numbers.Number.TheVariants.{Value}
 use Rattle.grammar.proofs.Asking.{by_cut, Cut, fields_alone, fields_more}
 use Rattle.text.proofs.Cutting.{index_within}
 use Rattle.text.proofs.Digits.{hex_long}

@@ -9,7 +9,6 @@ use lib.ListN.{length, get_or, take, drop}
 use lib.Seq.{drop-cons}
 use Rattle.text.specs.Text.{same}
 use Rattle.grammar.specs.Lines.{all_spelled, first_named, named, names, spelled}
-use Rattle.grammar.specs.declared.fields.Name.{Name}
 use Rattle.grammar.specs.declared.fields.Name.TheVariants.{Other}
 
 -- ---- the row

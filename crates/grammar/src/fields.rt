@@ -4,8 +4,7 @@ ghost use Rattle.std.proofs.Math.Option.{Option};
 ghost use Rattle.text.specs.Text.{fields as Text·fields};
 ghost use Rattle.grammar.specs.Lines.{all_spelled, given, hex_words, named, names, two_numbers, Wanted, WordsRead};
 
-use bytes::scan::find;
-use text::{Number, SPACE, decimal, field_end, hex_word, is_word};
+use text::{Number, SPACE, decimal, field_end, find, hex_word, is_word};
 
 // The name that a line begins with.
 #[derive(Drop)]

@@ -1,6 +1,6 @@
 -- The contract of `as_words` determines its result: two that it allows for the same answer are equal. The law speaks of
 -- the contract as the check reads it off the source.
-use mathlib.Core.Path.{◌≡◌, sym, ◌∙◌}
+use mathlib.Core.Path.{sym, ◌∙◌}
 use Rattle.model.specs.Contract.{Pinned}
 use Rattle.order.proofs.answer.as_words.Reads as as_words
 

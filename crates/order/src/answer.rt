@@ -32,6 +32,7 @@ fn refusal(code: u64) -> TwoWords
 }
 
 // An answer's number and value.
+#[tactic(auto, unfolding(crate::specs::Answer::code, crate::specs::Answer::value))]
 pub fn as_words(answer: Answer) -> TwoWords
     ensures { (result.code ≡ code answer) × (result.value ≡ value answer) }
 {

@@ -1,7 +1,7 @@
 // The chain of free nodes: each holds the number of the next, and the last holds the number of nodes.
 
 // The first free number and how many there are.
-#[derive(Drop)]
+#[derive(Clone, Copy)]
 pub struct Chain {
     pub first: u64,
     pub count: u64,

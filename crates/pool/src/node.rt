@@ -22,7 +22,7 @@ const FORK: u64 = 2;
 
 // A fork's children, how many marks and how many strikes its left child holds, and its balance as stored, two more than
 // right height less left height.
-#[derive(Drop)]
+#[derive(Clone, Copy)]
 pub struct Fork {
     pub left: u64,
     pub right: u64,
@@ -31,7 +31,7 @@ pub struct Fork {
     pub balance: u64,
 }
 
-#[derive(Drop)]
+#[derive(Clone, Copy)]
 pub enum Node {
     Free(u64),
     Leaf(Leaf),
@@ -40,14 +40,14 @@ pub enum Node {
 }
 
 // A node of a tree.
-#[derive(Drop)]
+#[derive(Clone, Copy)]
 pub enum TreeNode {
     Leaf(Leaf),
     Fork(Fork),
 }
 
 // The six words of a node as they stand.
-#[derive(Drop)]
+#[derive(Clone, Copy)]
 struct Cell {
     kind: u64,
     second: u64,

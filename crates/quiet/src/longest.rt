@@ -14,7 +14,7 @@ use pool::{LEVELS, TreeNode, leaf_or_fork};
 
 // How far the visit has come: whether a strike was met, how many quiet frames have passed since the last one, and the
 // longest quiet between two strikes so far.
-#[derive(Drop)]
+#[derive(Clone, Copy)]
 struct Watch {
     struck: bool,
     since: u64,

@@ -17,7 +17,7 @@ use window::NODE_WORDS;
 const MOST_INPUT: usize = 16384;
 
 // Where the next line begins, how many nodes the pool has now, and how many bytes were written.
-#[derive(Drop)]
+#[derive(Clone, Copy)]
 pub struct Next {
     pub at: usize,
     pub nodes: u64,
@@ -25,7 +25,7 @@ pub struct Next {
 }
 
 // The pool's nodes after a line, and how many bytes were written.
-#[derive(Drop)]
+#[derive(Clone, Copy)]
 struct After {
     nodes: u64,
     end: usize,

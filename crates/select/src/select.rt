@@ -9,14 +9,14 @@ ghost use Rattle.select.specs.Select.{InField, chosen, placed, sums_of};
 use bits::{WORD_BITS, ones32, ones64};
 
 // Where a wanted bit stands, or that there is none.
-#[derive(Drop)]
+#[derive(Clone, Copy)]
 pub enum Place {
     At(u64),
     Nothing,
 }
 
 // The masked sums: in each pair of bits, each half byte and each byte of a word, how many of its bits are set.
-#[derive(Drop)]
+#[derive(Clone, Copy)]
 struct Sums {
     pairs: u64,
     halves: u64,
@@ -24,7 +24,7 @@ struct Sums {
 }
 
 // How far a search has come: the bit looked for is the left-th set one from pos on.
-#[derive(Drop)]
+#[derive(Clone, Copy)]
 struct Reached {
     pos: u64,
     left: u64,

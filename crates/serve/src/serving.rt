@@ -12,7 +12,7 @@ use pool::Chain;
 use tree::Found;
 
 // What is known of a tree among node words: its root, how many marks it holds, and the free chain beside it.
-#[derive(Drop)]
+#[derive(Clone, Copy)]
 pub struct Held {
     pub root: u64,
     pub length: u64,
@@ -20,7 +20,7 @@ pub struct Held {
 }
 
 // What an order is answered, and what is known of the tree afterwards. Its root stays.
-#[derive(Drop)]
+#[derive(Clone, Copy)]
 pub struct Served {
     pub answer: Answer,
     pub length: u64,

@@ -7,7 +7,7 @@ use tree::toward;
 use turn::child_changed;
 
 // The mark that was taken out, and the free chain.
-#[derive(Drop)]
+#[derive(Clone, Copy)]
 pub struct Removed {
     pub bit: bool,
     pub chain: Chain,

@@ -10,7 +10,7 @@ use pool::{LEVELS, Node, node_at};
 const MOST_LEVELS: u64 = LEVELS + 1;
 
 // The strikes and the levels of a tree; 0 levels where there is none.
-#[derive(Drop)]
+#[derive(Clone, Copy)]
 pub struct Edge {
     pub ones: u64,
     pub levels: u64,

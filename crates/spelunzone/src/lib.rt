@@ -10,7 +10,7 @@ ghost use Rattle.window.specs.Calls.{BuildsTo, Checked, Valued};
 use order::{Answer, as_words};
 
 #[repr(C)]
-#[derive(Drop)]
+#[derive(Clone, Copy)]
 pub struct Reply {
     pub code: u64,
     pub value: u64,

@@ -25,7 +25,7 @@ pub fn first_leaf_size(nodes: &[u64], n: u64, length: u64, levels: u64) -> u64
 }
 
 // The leaf at the right edge: its number, and how many marks it holds.
-#[derive(Drop)]
+#[derive(Clone, Copy)]
 struct LastLeaf {
     n: u64,
     size: u64,

@@ -3,17 +3,17 @@
 use Prim.Native.Nat.{ℕ}
 use native.Mathlib.Omega.{arith}
 use mathlib.Core.Path.{◌≡◌, sym, ◌∙◌}
-use mathlib.Core.Option.{Option, none, some}
 use Rattle.model.specs.Contract.{Pinned}
 use Rattle.text.specs.Text.{number_in}
 use Rattle.text.specs.declared.numbers.Number.{Number}
 use Rattle.text.specs.declared.numbers.Number.TheVariants.{Value, Nothing}
 use Rattle.text.proofs.fields.field_end.Reads as field_end
-use Rattle.text.proofs.fields.is_word.Reads as is_IsWord
+use Rattle.text.proofs.fields.is_word.Reads as is_word
 use Rattle.text.proofs.numbers.decimal.Reads as decimal
 use Rattle.text.proofs.numbers.hex_word.Reads as hex_word
 use Rattle.text.proofs.numbers.put_decimal.Reads as put_decimal
 use Rattle.text.proofs.numbers.put_hex.Reads as put_hex
+use Rattle.text.proofs.scan.find.Reads as find
 
 -- two numbers that are the same, or that are none
 one_number : (m n : Number) → number_in m ≡ number_in n → m ≡ n
@@ -26,7 +26,7 @@ one_number Nothing Nothing e = cc
 pub field_end_pinned : Pinned field_end.Post
 field_end_pinned κs a r r' w w' p q = p.0 ∙ sym q.0
 
-pub is_word_pinned : Pinned is_IsWord.Post
+pub is_word_pinned : Pinned is_word.Post
 is_word_pinned κs a r r' w w' p q = p ∙ sym q
 
 pub decimal_pinned : Pinned decimal.Post
@@ -42,3 +42,6 @@ put_decimal_pinned κs a r r' w w' p q = (p.0 ∙ sym q.0, p.1 ∙ sym q.1)
 pub put_hex_pinned : (κs : _) (a : _) (r r' : _) (w w' : _) → put_hex.Post κs a r w → put_hex.Post κs a r' w'
     → (r ≡ r') × (w.0.now ≡ w'.0.now)
 put_hex_pinned κs a r r' w w' p q = (p.0 ∙ sym q.0, p.1 ∙ sym q.1)
+
+pub find_pinned : Pinned find.Post
+find_pinned κs a r r' w w' p q = p.0 ∙ sym q.0

@@ -1,9 +1,9 @@
 // The fields of a line, between single spaces.
 ghost use Rattle.std.specs.Prelude.{◌≡◌, ◌≤◌, length};
-ghost use Rattle.bytes.specs.Bytes.{index_of};
+ghost use Rattle.text.specs.Bytes.{index_of};
 ghost use Rattle.text.specs.Text.{same};
 
-use bytes::scan::find;
+use crate::scan::find;
 
 pub const SPACE: u8 = b' ';
 

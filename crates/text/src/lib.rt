@@ -3,6 +3,8 @@
 
 mod fields;
 mod numbers;
+mod scan;
 
 pub use fields::{NEWLINE, SPACE, field_end, is_word};
 pub use numbers::{Number, decimal, hex_word, put_decimal, put_hex};
+pub use scan::find;

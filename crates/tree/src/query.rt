@@ -17,7 +17,7 @@ use select::{Place, select128};
 
 // Where a place of a tree lies: the leaf, how many marks it holds, the place in it, and how many strikes stand before
 // the leaf.
-#[derive(Drop)]
+#[derive(Clone, Copy)]
 pub struct Spot {
     pub leaf: Leaf,
     pub length: u64,
@@ -26,7 +26,7 @@ pub struct Spot {
 }
 
 // Where a wanted mark stands, or that there are too few.
-#[derive(Drop)]
+#[derive(Clone, Copy)]
 pub enum Found {
     At(u64),
     TooFew,

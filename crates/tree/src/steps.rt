@@ -6,7 +6,7 @@ use bits::either;
 use pool::Fork;
 
 // The child of a fork that a place leads to, whether it is the left one, how many marks it holds, and the place in it.
-#[derive(Drop)]
+#[derive(Clone, Copy)]
 pub struct Step {
     pub left: bool,
     pub child: u64,

@@ -21,7 +21,7 @@ use pool::{Fork, balance_at, fork_at, set_fork};
 
 // The balances of the lowered and of the risen node after a turn, seen from A, and by how much the whole has grown in
 // height.
-#[derive(Drop)]
+#[derive(Clone, Copy)]
 struct Turned {
     lowered: i64,
     risen: i64,
@@ -45,7 +45,7 @@ fn balances(child: i64, top: i64) -> Turned
 }
 
 // The lowered and the risen node after a turn, and by how much the whole has grown in height.
-#[derive(Drop)]
+#[derive(Clone, Copy)]
 struct Forks {
     lowered: Fork,
     risen: Fork,

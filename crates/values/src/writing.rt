@@ -14,7 +14,7 @@ use bits::{BLOCK_BITS, Leaf, TOP_BIT, WORD_BITS};
 use pool::{LEVELS, TreeNode, leaf_or_fork};
 
 // How far the output has come: so many words are full, and `filled` marks of the next one wait in `word`.
-#[derive(Drop)]
+#[derive(Clone, Copy)]
 struct Tail {
     full: u64,
     filled: u64,

@@ -21,7 +21,7 @@ const LEAST_WORDS: usize = 2 * NODE_WORDS;
 const MOST_WORDS: usize = (MOST_NODES as usize + 1) * NODE_WORDS;
 
 // Whether a pool stands in its words, with its trailer, or not.
-#[derive(Drop)]
+#[derive(Clone, Copy)]
 pub enum Judgement {
     Stands(Trailer),
     Damaged,

@@ -6,7 +6,7 @@ use pool::Chain;
 
 // The words of the trailer, but for the last, which is zero: the root, how many marks, the free chain, and how many
 // nodes.
-#[derive(Drop)]
+#[derive(Clone, Copy)]
 pub struct Trailer {
     pub root: u64,
     pub length: u64,

@@ -1,0 +1,37 @@
+-- Each pass frees one more number, which holds the next. Assumes nothing.
+use Prim.Native.Nat.{ℕ, ◌+◌, ◌-◌, ◌≤◌}
+use native.Mathlib.Omega.{arith}
+use borrow.Author.Rules.{rules}
+use mathlib.Core.Path.{◌≡◌, refl, ap}
+use Rattle.pool.specs.Node.{nodes_in}
+use Rattle.build.proofs.FreeChain.{Freed, chained_from, none_freed, one_freed}
+use Rattle.build.proofs.building.chain_from.Goals as goal
+
+pub loop-n-init : goal.loop-n-init
+loop-n-init c = (omega arith, omega arith, none_freed c.args.nodes.now c.args.first)
+
+pub loop-n-preserved : goal.loop-n-preserved
+loop-n-preserved c =
+    (
+      omega arith,
+      omega arith,
+      one_freed c.set_Free.new.0 c.loop-n.invariant.2 (omega arith) (omega (arith, c.node_count-end.ensures))
+          c.set_Free.ensures,
+    )
+
+pub returns : goal.returns
+returns c =
+    let s = c.loop-n in
+    let a = c.args in
+    let f = s.invariant.2 in
+    let end = c.node_count-end.ensures in
+    let last : s.n ≡ nodes_in a.nodes.now = omega arith in
+    let all : a.first + (nodes_in a.nodes.now - a.first) ≡ nodes_in a.nodes.now = omega arith in
+    record {
+      kept = f.size;
+      begin = refl;
+      many = ap (λ (n : ℕ). n - a.first) end;
+      below = f.kept;
+      chain = chained_from s.nodes (nodes_in a.nodes.now) a.first (nodes_in a.nodes.now - a.first) all
+          (λ j l h. f.free j l (omega arith));
+    }

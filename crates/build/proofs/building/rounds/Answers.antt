@@ -1,0 +1,41 @@
+-- Each round leaves half the trees, and the rounds to come still make the same tree. Assumes nothing.
+use Prim.Native.Nat.{◌+◌, ◌-◌, ◌*◌, ◌≤◌}
+use native.Mathlib.Omega.{arith}
+use borrow.Author.Rules.{rules}
+use mathlib.Core.Path.{◌≡◌, refl}
+use mathlib.Core.List.{List}
+use lib.ListN.{length}
+use Rattle.model.specs.Build as Build
+use Rattle.model.specs.Tree.{Tree}
+use Rattle.build.specs.Waiting.{Waiting}
+use Rattle.build.proofs.Rounds.{InRounds, first_round, last_round, round_over}
+use Rattle.build.proofs.building.rounds.Goals as goal
+
+pub loop-row-init : goal.loop-row-init
+loop-row-init c = (omega arith, omega arith, refl, λ ts p. first_round ts p)
+
+pub round-row-requires : goal.round-row-requires
+round-row-requires c =
+    let s = c.loop-row in
+    let p = c.requires.1 in
+    let t = s.invariant.3 p.these p.wait in
+    (omega arith, record { enough = omega arith; few = omega arith; these = t.trees; wait = t.waits })
+
+pub loop-row-preserved : goal.loop-row-preserved
+loop-row-preserved c =
+    let s = c.loop-row in
+    let r = c.round-row in
+    let size = r.ensures.kept in
+    let half = r.ensures.half in (
+      omega arith,
+      omega arith,
+      omega arith,
+      λ ts p. round_over _ (omega arith) r.ensures (omega arith) (s.invariant.3 ts p),
+    )
+
+pub returns : goal.returns
+returns c =
+    let s = c.loop-row in
+    let a = c.args in
+    let last : 2 * a.leaves.count - 1 ≡ s.next = omega arith in
+    record { kept = s.invariant.2; done = λ ts p. rw last (last_round (s.invariant.3 ts p) (omega arith)) }

@@ -1,0 +1,21 @@
+-- FIRST VERSION
+use Prim.Native.Nat.{◌+◌, ◌-◌, ◌*◌, ◌≤◌}
+use native.Mathlib.Omega.{arith}
+use borrow.Author.Rules.{rules}
+use mathlib.Core.Path.{◌≡◌, refl}
+use mathlib.Core.List.{List}
+use lib.ListN.{length}
+use Rattle.model.specs.Build as Build
+use Rattle.model.specs.Tree.{Tree}
+use Rattle.build.specs.Waiting.{Waiting}
+use Rattle.build.proofs.Rounds.{InRounds, first_round, last_round, round_over}
+use Rattle.build.proofs.building.rounds.Given as goal
+
+abbrev pub invariant-loop-row : goal.invariant-loop-row
+invariant-loop-row l =
+    (1 ≤ l.row.count) × (l.next + l.row.count ≡ 2 * l.initial.row.count) × (length l.nodes ≡ length l.initial.nodes)
+    × ((ts : List Tree) → Waiting l.initial.nodes l.initial.row.count l.initial.row ts
+    → InRounds l.nodes l.row l.next (Build.rounds l.initial.row.count l.initial.row.count ts))
+
+abbrev pub decreases-loop-row : goal.decreases-loop-row
+decreases-loop-row l = l.row.count

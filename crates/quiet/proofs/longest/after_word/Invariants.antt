@@ -1,0 +1,17 @@
+-- FIRST VERSION
+use Prim.Native.Nat.{◌+◌, ◌-◌, ◌^◌, ◌≤◌, ◌<◌}
+use native.Mathlib.Omega.{arith}
+use mathlib.Core.Path.{◌≡◌, refl, ◌∙◌}
+use lib.Count.{trailing_le}
+use lib.Pow.{shr_le}
+use Rattle.model.specs.Word.{bits}
+use Rattle.quiet.specs.Watching.{later, watched}
+use Rattle.quiet.proofs.Passed.{above, gap, run, run_some, strike_since, word_quiet, word_struck, word_strikes}
+use Rattle.quiet.proofs.longest.after_word.Given as goal
+
+abbrev pub invariant-loop-left : goal.invariant-loop-left
+invariant-loop-left l =
+    (l.left ≤ 64) × (l.now.since + l.left < 2 ^ 64) × (l.rest < 2 ^ 64) × (watched l.now (bits l.left l.rest) ≡ watched l.initial.now (bits l.length l.word))
+
+abbrev pub decreases-loop-left : goal.decreases-loop-left
+decreases-loop-left l = l.left

@@ -1,0 +1,25 @@
+-- The mark is read off the leaf that the place leads to. Assumes nothing.
+use native.Mathlib.Omega.{arith}
+use mathlib.Core.Path.{ap, ◌∙◌}
+use Rattle.model.specs.Marks.{access}
+use Rattle.bits.specs.Leaf.{bits_of}
+use Rattle.bits.specs.declared.leaf.Leaf.{Leaf}
+use Rattle.bits.proofs.Held.{access_held}
+use Rattle.tree.specs.TreeAt.{tree_at}
+use Rattle.tree.proofs.query.access.Goals as goal
+
+pub reach-spot-requires : goal.reach-spot-requires
+reach-spot-requires c = let p = c.requires in (tree_at p.0 p.1 p.2, omega arith)
+
+pub mark_at-requires : goal.mark_at-requires
+mark_at-requires c =
+    let p = c.requires in
+    let q = c.reach-spot.ensures (tree_at p.0 p.1 p.2) in
+    omega (arith, q.within, q.small)
+
+pub returns : goal.returns
+returns c = λ t h e.
+    let spot = c.reach-spot in
+    let q = spot.ensures (tree_at t h e) in
+    c.mark_at.ensures ∙ ap (λ (x : Leaf). access spot.result.at (bits_of x)) q.leaf
+    ∙ access_held _ spot.result.at (omega (arith, q.small)) ∙ q.mark

@@ -1,0 +1,6 @@
+-- Quiets are what the strikes leave. Assumes nothing.
+use borrow.Author.Rules.{rules}
+use Rattle.tree.proofs.query.wanted.Goals as goal
+
+pub returns : goal.returns
+returns c = rw c.if-bit.false
