@@ -6,11 +6,13 @@
 // Proved: that it is safe and ends, and the libraries that it calls. Only run: that it hands on what they answer.
 #![tactic(auto)]
 
-ghost use Rattle.std.specs.Prelude.{◌+◌, ◌*◌, ◌≤◌, ◌<◌, length};
-ghost use Rattle.io.specs.Counts.{IsPrefixLen};
+ghost use Rattle.std.specs.Prelude.{◌≡◌, ◌+◌, ◌*◌, ◌≤◌, ◌<◌, length, take};
+ghost use Rattle.std.specs.Io.{ReadsAtMost};
 
 use bits::{Halves, Leaf};
 use select::Place;
+use std::io;
+use std::io::{Read, Write};
 
 // The bytes of a request and of its answer, and of 1,024 of each.
 const REQUEST: usize = 48;
@@ -156,7 +158,8 @@ fn answered(r: Request) -> Answer {
 fn answer_each(asked: &[u8], count: usize, told: &mut [u8]) -> usize
     requires count_in_bounds { count * 48 ≤ length asked.now }
     requires count_in_bounds_2 { count * 32 ≤ length told.old }
-    ensures { IsPrefixLen result told.new }
+    ensures in_bounds { result ≤ length told.new }
+    ensures part { result ≡ length (take result told.new) }
 {
     let mut i = 0;
     while i < count {
@@ -167,20 +170,39 @@ fn answer_each(asked: &[u8], count: usize, told: &mut [u8]) -> usize
     count * ANSWER
 }
 
-// Reads what fits, answers each whole request of it, and says whether more may follow.
-fn next() -> bool {
-    let mut asked = [0u8; ASKED];
-    let got = io::read_full(libc::STDIN_FILENO, &mut asked);
-    let mut told = [0u8; TOLD];
-    let end = answer_each(&asked, got / REQUEST, &mut told);
-    io::write_all(libc::STDOUT_FILENO, &told[..end]) && got == ASKED
+// Reads until the bytes are full or the input ends, and says how many of them, from the first on, were read.
+fn read_full<R: Read>(reader: &mut R, bytes: &mut [u8]) -> io::Result<usize>
+    ensures { ReadsAtMost result bytes.new }
+{
+    let mut done = 0;
+    while done < bytes.len() {
+        let more = reader.read(&mut bytes[done..])?;
+        if more == 0 {
+            break;
+        }
+        done += more;
+    }
+    Ok(done)
 }
 
-// A loop has to end, and nothing says that the input does. So the rounds are counted down, from a number that no run
-// uses up.
-fn main() {
-    let mut rounds = u64::MAX;
-    while rounds > 0 && next() {
-        rounds -= 1;
+// Reads what fits, answers each whole request of it, and says whether more may follow.
+fn next<R: Read, W: Write>(reader: &mut R, writer: &mut W) -> io::Result<bool> {
+    let mut asked = [0u8; ASKED];
+    let got = read_full(reader, &mut asked)?;
+    let mut told = [0u8; TOLD];
+    let end = answer_each(&asked, got / REQUEST, &mut told);
+    writer.write_all(&told[..end])?;
+    Ok(got == ASKED)
+}
+
+// A loop has to end, and nothing says that the input does. So the rounds are counted, to a number that no run uses up.
+fn main(rt: HostRuntime) -> io::Result<()> {
+    let mut stdin = rt.stdin();
+    let mut stdout = rt.stdout();
+    for _ in 0..u64::MAX {
+        if !next(&mut stdin, &mut stdout)? {
+            break;
+        }
     }
+    Ok(())
 }

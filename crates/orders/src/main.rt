@@ -5,9 +5,12 @@
 #![tactic(auto)]
 
 ghost use Rattle.std.specs.Prelude.{◌≤◌, length};
+ghost use Rattle.std.specs.Io.{ReadsAtMost};
 ghost use Rattle.orders.specs.Loop.{Plays};
 
 use script::play;
+use std::io;
+use std::io::{ErrorKind, Read, Write};
 
 const MOST_WORDS: usize = 6144;
 
@@ -16,33 +19,56 @@ const INPUT: usize = 16385;
 
 const LINE: usize = 17408;
 
-// Writes the first bytes, so many, and says whether that was done.
-fn write(bytes: &[u8], count: usize) -> bool
-    requires { count ≤ length bytes.now }
+// Reads until the bytes are full or the input ends, and says how many of them, from the first on, were read.
+fn read_full<R: Read>(reader: &mut R, bytes: &mut [u8]) -> io::Result<usize>
+    ensures { ReadsAtMost result bytes.new }
 {
-    io::write_all(libc::STDOUT_FILENO, &bytes[..count])
+    let mut done = 0;
+    while done < bytes.len() {
+        let more = reader.read(&mut bytes[done..])?;
+        if more == 0 {
+            break;
+        }
+        done += more;
+    }
+    Ok(done)
 }
 
-// Plays the lines of an input one after the other, and writes what each prints, until nobody reads any more.
-fn play_all(input: &[u8], pool: &mut [u64; 6144], out: &mut [u8; 17408])
+// Writes the first bytes, so many.
+fn write<W: Write>(writer: &mut W, bytes: &[u8], count: usize) -> io::Result<()>
+    requires { count ≤ length bytes.now }
+{
+    writer.write_all(&bytes[..count])
+}
+
+// Plays the lines of an input one after the other, and writes what each prints. It stops at a line that is not written.
+fn play_all<W: Write>(
+    writer: &mut W,
+    input: &[u8],
+    pool: &mut [u64; 6144],
+    out: &mut [u8; 17408],
+) -> io::Result<()>
     ensures { Plays input.now pool.old pool.new }
 {
     let mut at = 0;
     let mut nodes = 0;
     while at < input.len() {
         let next = play(input, at, nodes, pool, out);
-        if !write(out, next.end) {
-            return;
-        }
+        write(writer, out, next.end)?;
         at = next.at;
         nodes = next.nodes;
     }
+    Ok(())
 }
 
-fn main() {
+// Where nobody reads any more the program has done its work, and says nothing of it.
+fn main(rt: HostRuntime) -> io::Result<()> {
     let mut pool = [0u64; MOST_WORDS];
     let mut input = [0u8; INPUT];
     let mut out = [0u8; LINE];
-    let length = io::read_full(libc::STDIN_FILENO, &mut input);
-    play_all(&input[..length], &mut pool, &mut out);
+    let length = read_full(&mut rt.stdin(), &mut input)?;
+    match play_all(&mut rt.stdout(), &input[..length], &mut pool, &mut out) {
+        Err(e) if e.kind() == ErrorKind::BrokenPipe => Ok(()),
+        played => played,
+    }
 }

@@ -27,6 +27,8 @@ mod bytes;
 use answers::put_answer;
 use bytes::{put_words, read_words, word_at};
 use order::Answer;
+use std::io;
+use std::io::{ErrorKind, Read, Write};
 
 const MOST_POOL: usize = 6150;
 
@@ -125,14 +127,24 @@ fn serve(
     }
 }
 
+// Reads as many bytes as there is room for, and says whether all of them came.
+fn read_whole<R: Read>(reader: &mut R, bytes: &mut [u8]) -> io::Result<bool> {
+    match reader.read_exact(bytes) {
+        Ok(()) => Ok(true),
+        Err(e) if e.kind() == ErrorKind::UnexpectedEof => Ok(false),
+        Err(e) => Err(e),
+    }
+}
+
 // Reads the lists of a request, count words and three words for each of the orders, and says whether all of them came.
-fn read_lists(
+fn read_lists<R: Read>(
+    reader: &mut R,
     count: usize,
     orders: usize,
     lists: &mut [u8],
     words: &mut [u64],
     asked: &mut [u64],
-) -> bool
+) -> io::Result<bool>
     requires count_bound { count ≤ 520 }
     requires orders_bound { orders ≤ 4096 }
     requires bound { 102464 ≤ ListN.length lists.old }
@@ -141,12 +153,12 @@ fn read_lists(
 {
     let first = count * 8;
     let both = first + orders * 24;
-    if io::read_full(libc::STDIN_FILENO, &mut lists[..both]) != both {
-        return false;
+    if !read_whole(reader, &mut lists[..both])? {
+        return Ok(false);
     }
     read_words(lists, 0, words, count);
     read_words(lists, first, asked, orders * 3);
-    true
+    Ok(true)
 }
 
 // How many words of the answers, of the output and of the pool an answer shows.
@@ -200,18 +212,26 @@ fn serve_parts(
     )
 }
 
-// Writes an answer, and says whether that was done.
-fn tell(calls: Calls, replies: &[u64], out: &[u64], pool: &[u64], sizes: Sizes) -> bool
+// Writes an answer.
+fn tell<W: Write>(
+    writer: &mut W,
+    calls: Calls,
+    replies: &[u64],
+    out: &[u64],
+    pool: &[u64],
+    sizes: Sizes,
+) -> io::Result<()>
     requires { Shown sizes replies.now out.now pool.now }
 {
     let mut told = [0u8; TOLD];
     put_calls(&mut told, calls);
     let end = put_lists(&mut told, replies, out, pool, sizes);
-    io::write_all(libc::STDOUT_FILENO, &told[..end])
+    writer.write_all(&told[..end])
 }
 
-// Serves a request, where its lists are read, and says whether the answer was written.
-fn serve_and_tell(
+// Serves a request, where its lists are read, and writes the answer.
+fn serve_and_tell<W: Write>(
+    writer: &mut W,
     r: Request,
     size: usize,
     words: &[u64],
@@ -223,7 +243,7 @@ fn serve_and_tell(
     room: usize,
     pool: &mut [u64],
     shown: usize,
-) -> bool
+) -> io::Result<()>
     requires size_bound { size ≤ 6150 }
     requires shown_bound { shown ≤ 6150 }
     requires count_bound { count ≤ ListN.length words.now }
@@ -242,11 +262,13 @@ fn serve_and_tell(
         room,
         shown,
     };
-    tell(calls, replies, out, pool, sizes)
+    tell(writer, calls, replies, out, pool, sizes)
 }
 
-// Reads the rest of a request, serves it, and says whether the answer was written.
-fn answer_to(
+// Reads the rest of a request, serves it and writes the answer, and says whether it was a whole one within the limits.
+fn answer_to<R: Read, W: Write>(
+    reader: &mut R,
+    writer: &mut W,
     r: Request,
     lists: &mut [u8],
     words: &mut [u64],
@@ -254,7 +276,7 @@ fn answer_to(
     replies: &mut [u64],
     out: &mut [u64],
     pool: &mut [u64],
-) -> bool
+) -> io::Result<bool>
     requires bound { 102464 ≤ ListN.length lists.old }
     requires bound_2 { 520 ≤ ListN.length words.old }
     requires bound_3 { 12288 ≤ ListN.length asked.old }
@@ -268,33 +290,34 @@ fn answer_to(
     let room = r.room as usize;
     let shown = r.shown as usize;
     if MOST_POOL < size {
-        return false;
+        return Ok(false);
     }
     if MOST_WORDS < count {
-        return false;
+        return Ok(false);
     }
     if MOST_ORDERS < orders {
-        return false;
+        return Ok(false);
     }
     if MOST_WORDS < room {
-        return false;
+        return Ok(false);
     }
     if MOST_POOL < shown {
-        return false;
+        return Ok(false);
     }
-    if !read_lists(count, orders, lists, words, asked) {
-        return false;
+    if !read_lists(reader, count, orders, lists, words, asked)? {
+        return Ok(false);
     }
     serve_and_tell(
-        r, size, words, count, asked, orders, replies, out, room, pool, shown,
-    )
+        writer, r, size, words, count, asked, orders, replies, out, room, pool, shown,
+    )?;
+    Ok(true)
 }
 
 // Reads a request and answers it, and says whether more may follow.
-fn next() -> bool {
+fn next<R: Read, W: Write>(reader: &mut R, writer: &mut W) -> io::Result<bool> {
     let mut head = [0u8; HEAD];
-    if io::read_full(libc::STDIN_FILENO, &mut head) != HEAD {
-        return false;
+    if !read_whole(reader, &mut head)? {
+        return Ok(false);
     }
     let r = request_of(&head);
     let fill = r.fill;
@@ -305,6 +328,8 @@ fn next() -> bool {
     let mut out = [fill; MOST_WORDS];
     let mut pool = [fill; MOST_POOL];
     answer_to(
+        reader,
+        writer,
         r,
         &mut lists,
         &mut words,
@@ -315,11 +340,14 @@ fn next() -> bool {
     )
 }
 
-// A loop has to end, and nothing says that the input does. So the rounds are counted down, from a number that no run
-// uses up.
-fn main() {
-    let mut rounds = u64::MAX;
-    while rounds > 0 && next() {
-        rounds -= 1;
+// A loop has to end, and nothing says that the input does. So the rounds are counted, to a number that no run uses up.
+fn main(rt: HostRuntime) -> io::Result<()> {
+    let mut stdin = rt.stdin();
+    let mut stdout = rt.stdout();
+    for _ in 0..u64::MAX {
+        if !next(&mut stdin, &mut stdout)? {
+            break;
+        }
     }
+    Ok(())
 }
