@@ -7,7 +7,6 @@ use mathlib.Core.List.{List, ◌++◌}
 use lib.ListN.{length, take, drop}
 use Rattle.model.specs.Edit.{put_before, put_after, drop_first, drop_last, first_mark, last_mark}
 use Rattle.model.specs.Marks.{access, count, remove}
-use Rattle.model.specs.Tree as Tree
 use Rattle.model.specs.Tree.{Tree, top, marks, size, first_leaf, last_leaf, numbers}
 use Rattle.model.specs.Word.{digit}
 use Rattle.model.proofs.Shape.{put_before_shape, put_after_shape, drop_first_shape, drop_last_shape}
@@ -221,21 +220,21 @@ unfolding last_leaf
 last_held w (Tree.leaf m xs) h = h
 last_held w (Tree.fork m l r) h = last_held w r h.2
 
-last_small : {w : List ℕ} {n levels : ℕ} (t : Tree) → Rooted w n levels t → length (last_leaf t) ≤ 127
+last_small : {w : List ℕ} (t : Tree) {n levels : ℕ} → Rooted w n levels t → length (last_leaf t) ≤ 127
 unfolding last_leaf
 last_small (Tree.leaf m xs) h = leaf_small m xs h
 last_small (Tree.fork m l r) h = last_small r (rooted_child false m l r h)
 
 -- other marks there are other marks of the tree
 module _ {w w' : List ℕ} {c : Leaf} where
-  after_edited : {levels : ℕ} (ys : List Bool) (t : Tree) → Editable w (top t) levels t → c ≡ leaf_of (last_leaf t ++ ys)
+  after_edited : (ys : List Bool) (t : Tree) {levels : ℕ} → Editable w (top t) levels t → c ≡ leaf_of (last_leaf t ++ ys)
       → w' ≡ put w (last_number t) (leaf_cell c) → Edited w w' (numbers t) (put_after ys t)
   unfolding put_after last_leaf top fork_of
   after_edited ys (Tree.leaf m xs) o s e = edited_leaf m xs (xs ++ ys) o.rooted s e
   after_edited ys (Tree.fork m l r) o s e =
       edited_right m l r o (put_after ys r) (put_after_shape ys r) (after_edited ys r (editable_child false m l r o refl) s e)
 
-  last_edited : {levels : ℕ} (t : Tree) → Editable w (top t) levels t → c ≡ leaf_of (take (length (last_leaf t) - 1) (last_leaf t))
+  last_edited : (t : Tree) {levels : ℕ} → Editable w (top t) levels t → c ≡ leaf_of (take (length (last_leaf t) - 1) (last_leaf t))
       → w' ≡ put w (last_number t) (leaf_cell c) → Edited w w' (numbers t) (drop_last t)
   unfolding drop_last last_leaf top fork_of
   last_edited (Tree.leaf m xs) o s e = edited_leaf m xs (take (length xs - 1) xs) o.rooted s e

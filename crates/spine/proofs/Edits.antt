@@ -8,7 +8,6 @@ use mathlib.Core.List.Memᴰ
 use mathlib.Core.List.{List, ◌∷◌, ◌++◌, Memᴰ}
 use Rattle.model.specs.Marks.{count}
 use Rattle.model.specs.Sound.{Distinct, Rearranged}
-use Rattle.model.specs.Tree as Tree
 use Rattle.model.specs.Tree.{Tree, top, marks, size, height, numbers}
 use Rattle.model.proofs.Distincts.{distinct_second, distinct_apart}
 use Rattle.model.proofs.Rearranged.{weigh, weigh_append, rearranged_sym, rearranged_member, rearranged_distinct}

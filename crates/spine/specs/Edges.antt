@@ -1,6 +1,5 @@
 -- Edits along an edge of a tree that stands in a pool's words: what each may assume of the tree, and what it leaves.
-use Rattle.std.specs.Prelude.{ℕ, ◌+◌, ◌≤◌, ◌≡◌, Bool, true, false, List, [], ◌∷◌, length}
-use Rattle.model.specs.Side.{side}
+use Rattle.std.specs.Prelude.{ℕ, ◌+◌, ◌≤◌, ◌≡◌, Bool, true, List, [], ◌∷◌, length}
 use Rattle.model.specs.Marks.{count}
 use Rattle.model.specs.Sound.{Distinct}
 use Rattle.model.specs.Tree as Tree

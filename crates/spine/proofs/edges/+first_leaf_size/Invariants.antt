@@ -1,0 +1,4 @@
+use Rattle.spine.proofs.edges.+first_leaf_size.Given as goal
+
+abbrev pub decreases-first_leaf_size : goal.decreases-first_leaf_size
+decreases-first_leaf_size l = l.levels

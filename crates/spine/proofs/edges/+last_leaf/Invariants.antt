@@ -1,0 +1,4 @@
+use Rattle.spine.proofs.edges.+last_leaf.Given as goal
+
+abbrev pub decreases-last_leaf : goal.decreases-last_leaf
+decreases-last_leaf l = l.levels
