@@ -7,7 +7,7 @@ ghost use Rattle.grammar.specs.Lines.{all_spelled, given, hex_words, named, name
 use text::{Number, SPACE, decimal, field_end, find, hex_word, is_word};
 
 // The name that a line begins with.
-#[derive(Drop)]
+#[derive(Clone, Copy)]
 pub enum Name {
     Pool,
     Load,
@@ -22,13 +22,13 @@ pub enum Name {
 }
 
 // Two numbers.
-#[derive(Drop)]
+#[derive(Clone, Copy)]
 pub struct Two {
     pub first: u64,
     pub second: u64,
 }
 
-#[derive(Drop)]
+#[derive(Clone, Copy)]
 pub enum Pair {
     Both(Two),
     Nothing,

@@ -12,7 +12,7 @@ use order::{ACCESS, INSERT, QUIET, RANK, REMOVE, SELECT};
 use text::{Number, decimal, field_end};
 
 // An order's three words.
-#[derive(Drop)]
+#[derive(Clone, Copy)]
 pub struct Order {
     pub number: u64,
     pub second: u64,
@@ -20,13 +20,13 @@ pub struct Order {
 }
 
 // How many marks are to be built, and from how many words.
-#[derive(Drop)]
+#[derive(Clone, Copy)]
 pub struct Load {
     pub length: u64,
     pub count: u64,
 }
 
-#[derive(Drop)]
+#[derive(Clone, Copy)]
 pub enum Line {
     Pool(u64),
     Load(Load),

@@ -3,7 +3,7 @@ ghost use Rattle.std.specs.Prelude.{◌≡◌, ◌+◌, ◌^◌, ◌≤◌, ◌<
 ghost use Rattle.text.specs.Text.{decimal_text, digits, fitting, hex_text, hex_word, number_in, over, worth as Text·worth};
 ghost use Rattle.text.specs.Text.{decimal as Text·decimal, glyph as Text·glyph, numeral as Text·numeral};
 
-#[derive(Drop)]
+#[derive(Clone, Copy)]
 pub enum Number {
     Value(u64),
     Nothing,
