@@ -48,7 +48,7 @@ pub returns-in_default-third : goal.returns-in_default-third
 returns-in_default-third c =
     let insert : let a = c.args in
         asks a.number a.second a.third ≡ with_bit a.third (inserting a.second) = asks_insert _ _ _ c.in-1.is in
-    λ end p s. malformed s (insert ∙ no_bit _ _ c.in-0.rest.0.1 c.in-0.rest.1)
+    λ end p s. malformed s (insert ∙ no_bit _ _ (search rules) (search rules))
     c.unmoved.ensures
 
 pub returns-in-0-third : goal.returns-in-0-third
@@ -62,7 +62,7 @@ pub returns-in_default-third-2 : goal.returns-in_default-third-2
 returns-in_default-third-2 c =
     let remove : let a = c.args in
         asks a.number a.second a.third ≡ with_zero a.third (removing a.second) = asks_remove _ _ _ c.in-2.is in
-    λ end p s. malformed s (remove ∙ no_zero _ _ c.in-0-third.rest.1) c.unmoved-in_default-third-2.ensures
+    λ end p s. malformed s (remove ∙ no_zero _ _ (search rules)) c.unmoved-in_default-third-2.ensures
 
 -- ---- questions
 
@@ -77,7 +77,7 @@ pub returns-in_default-third-3 : goal.returns-in_default-third-3
 returns-in_default-third-3 c =
     let access : let a = c.args in
         asks a.number a.second a.third ≡ with_zero a.third (accessing a.second) = asks_access _ _ _ c.in-3.is in
-    λ end p s. malformed s (access ∙ no_zero _ _ c.in-0-third-2.rest.1) c.unmoved-in_default-third-3.ensures
+    λ end p s. malformed s (access ∙ no_zero _ _ (search rules)) c.unmoved-in_default-third-3.ensures
 
 pub returns-in-0-third-3 : goal.returns-in-0-third-3
 returns-in-0-third-3 c =
@@ -97,7 +97,7 @@ pub returns-in_default-third-4 : goal.returns-in_default-third-4
 returns-in_default-third-4 c =
     let rank : let a = c.args in
         asks a.number a.second a.third ≡ with_bit a.third (ranking a.second) = asks_rank _ _ _ c.in-4.is in
-    λ end p s. malformed s (rank ∙ no_bit _ _ c.in-0-third-3.rest.0.1 c.in-0-third-3.rest.1)
+    λ end p s. malformed s (rank ∙ no_bit _ _ (search rules) (search rules))
     c.unmoved-in_default-third-4.ensures
 
 pub returns-in-0-third-4 : goal.returns-in-0-third-4
@@ -118,7 +118,7 @@ pub returns-in_default-third-5 : goal.returns-in_default-third-5
 returns-in_default-third-5 c =
     let select : let a = c.args in
         asks a.number a.second a.third ≡ with_bit a.third (selecting a.second) = asks_select _ _ _ c.in-5.is in
-    λ end p s. malformed s (select ∙ no_bit _ _ c.in-0-third-4.rest.0.1 c.in-0-third-4.rest.1)
+    λ end p s. malformed s (select ∙ no_bit _ _ (search rules) (search rules))
     c.unmoved-in_default-third-5.ensures
 
 pub returns-in-0-third-5 : goal.returns-in-0-third-5
@@ -134,19 +134,18 @@ returns-in_default-third-6 c =
     let longest : let a = c.args in
         asks a.number a.second a.third ≡ with_zero a.second (with_zero a.third quiet) = asks_quiet _ _ _ c.in-6.is in
     let lone : let a = c.args in asks a.number a.second a.third ≡ with_zero a.third quiet = longest ∙ is_zero c.args.second _ c.in-0-second.is in
-    λ end p s. malformed s (lone ∙ no_zero _ _ c.in-0-third-5.rest.1) c.unmoved-in_default-third-6.ensures
+    λ end p s. malformed s (lone ∙ no_zero _ _ (search rules)) c.unmoved-in_default-third-6.ensures
 
 pub returns-in_default-second : goal.returns-in_default-second
 returns-in_default-second c =
     let longest : let a = c.args in
         asks a.number a.second a.third ≡ with_zero a.second (with_zero a.third quiet) = asks_quiet _ _ _ c.in-6.is in
-    λ end p s. malformed s (longest ∙ no_zero _ _ c.in-0-second.rest.1) c.unmoved-in_default-second.ensures
+    λ end p s. malformed s (longest ∙ no_zero _ _ (search rules)) c.unmoved-in_default-second.ensures
 
 -- ---- no order
 
 pub returns-in_default : goal.returns-in_default
 returns-in_default c = λ end p s.
-    let other = c.in-1.rest in
     malformed s
-    (asks_nothing _ _ _ other.0.0.0.0.0.1 other.0.0.0.0.1 other.0.0.0.1 other.0.0.1 other.0.1 other.1)
+    (asks_nothing _ _ _ (search rules) (search rules) (search rules) (search rules) (search rules) (search rules))
     c.unmoved-in_default.ensures
