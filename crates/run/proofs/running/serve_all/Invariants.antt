@@ -1,0 +1,15 @@
+-- FIRST VERSION
+use Prim.Native.Nat.{◌-◌, ◌≤◌}
+use native.Mathlib.Omega.{arith}
+use mathlib.Core.Path.{◌≡◌, sym, ◌∙◌}
+use lib.ListN.{length, length-set}
+use Rattle.model.specs.Pool.{Pool}
+use Rattle.window.specs.Layout.{Stands}
+use Rattle.run.proofs.OneByOne.{Reached, reached_none, reached_length, reached_more, reached_all}
+use Rattle.run.proofs.running.serve_all.Given as goal
+
+abbrev pub invariant-loop-i : goal.invariant-loop-i
+invariant-loop-i l = (l.i ≤ l.count) × ((p : Pool) → Stands l.initial.pool l.n p → Reached l.n l.orders l.initial.out p l.i l.pool l.out)
+
+abbrev pub decreases-loop-i : goal.decreases-loop-i
+decreases-loop-i l = l.count - l.i
