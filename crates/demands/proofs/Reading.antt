@@ -135,9 +135,9 @@ pub runs_mean : {ws : List ℕ} {n : ℕ} {p : Pool} (lists : List (List ℕ)) {
     → Means n p (all_orders lists) ws' told
 unfolding all_orders orders_of after_all answers answer_words
 runs_mean [] s r = record { whole = refl; stands = rw r.0 s; tells = r.1 }
-runs_mean {n = n} {p = p} (orders ∷ lists) {ws' = ws'} s r =
+runs_mean {ws = ws} {n = n} {p = p} (orders ∷ lists) {ws' = ws'} {told = told} s r =
     let m = accepted_means s r.3 in
-    let more = runs_mean lists m.stands r.4 in
+    let more = runs_mean {ws = r.0} lists m.stands r.4 in
     record {
       whole = omega (arith, length-append orders (all_orders lists), m.whole, more.whole);
       stands = rw (becomes_append orders (all_orders lists) p m.whole) more.stands;
