@@ -6,7 +6,7 @@ use mathlib.Core.List.{List, [], ◌∷◌}
 use lib.Dec.{eqb}
 use lib.ListN.{length, take, drop, drop_of_length-le}
 use lib.Seq.{drop-drop, drop-length, take_all, take-length}
-use Rattle.bytes.specs.Bytes.{index_after, index_of, slice}
+use Rattle.text.specs.Bytes.{index_after, index_of, slice}
 use Rattle.model.proofs.Cases.{by_ltb, by_test}
 use Rattle.text.proofs.Cutting.{pieces_more, pieces_one}
 use Rattle.text.specs.Text.{closed, lines}

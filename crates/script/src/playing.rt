@@ -7,11 +7,10 @@ ghost use Rattle.order.specs.Asked.{asks};
 ghost use Rattle.script.specs.Playing.{Plays, LinePlayed, desk, extent_of};
 
 use crate::telling::{end_line, put_two, put_words, tell, tell_two};
-use bytes::scan::find;
 use grammar::{Line, Load, Order, read};
 use order::Answer;
 use pool::MOST_NODES;
-use text::NEWLINE;
+use text::{NEWLINE, find};
 use window::NODE_WORDS;
 
 const MOST_INPUT: usize = 16384;
