@@ -1,4 +1,4 @@
--- FIRST VERSION
+-- What the loop keeps, and the measure that falls.
 use Prim.Native.Nat.{ℕ, ◌+◌, ◌-◌, ◌≤◌}
 use native.Mathlib.Omega.{arith}
 use borrow.Author.Rules.{rules}

@@ -127,13 +127,3 @@ returns c =
     let p = s.invariant.2 ts b in
     odd_ends b.level (omega arith) p.0 p.1 b p.2 (omega (arith, b.many)) (omega (arith, c.requires.1.enough)) forked
     (rw (add-one (a.next + s.i)) at k.ensures)))
-
--- no such goal now: same-length-2
--- same-length-2 : tie.Need-same-length-2 invariant-loop decreases-loop
--- same-length-2 c =
---     let fork = c.before.before.before in
---     let pair = fork.before.before.before.before in
---     let at-loop = pair.before.before.before.before.before.before.before.before.before in
---     let size : length pair.joined3.new.0 ≡ length at-loop.loop.nodes = pair.joined3.auto.0 in
---     let again : length fork.joined4.new.0 ≡ length pair.joined3.new.0 = fork.joined4.auto.0 in
---     again ∙ size ∙ at-loop.loop.invariant.1

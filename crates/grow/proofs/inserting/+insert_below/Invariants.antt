@@ -1,4 +1,4 @@
--- FIRST VERSION
+-- The measure that falls.
 use Prim.Native.Nat.{ℕ, ◌+◌, ◌<◌, ◌^◌}
 use native.Mathlib.Omega.{arith}
 use mathlib.Core.Bool.{◌&&◌}

@@ -41,17 +41,6 @@ loop-i-preserved c = (
       c.as_words-words.ensures.1,
 )
 
--- no such goal now: same-length
--- same_length : tie.Need-same-length invariant-loop decreases-loop
--- same_length c =
---     let r = reached c.before in
---     let w = c.before.before.before.before.before.requires.1.counted.words in
---     r.stands.counted.words ∙ sym w
-
--- no such goal now: same-length-2
--- same-length-2 : tie.Need-same-length-2 invariant-loop decreases-loop
--- same-length-2 c = same_out c.before
-
 pub returns : goal.returns
 returns c = λ p s.
     let all : c.loop-i.i ≡ c.args.count = omega arith in

@@ -52,14 +52,6 @@ loop-i-preserved c =
           })),
     )
 
--- no such goal now: same-length
--- same_length : tie.Need-same-length invariant-loop decreases-loop
--- same_length c =
---     let l = c.before.loop in
---     let s = c.before.before.before.before in
---     put_length s.args.at (words_text (take l.i s.args.words.now)) s.args.out.now l.end l.out l.invariant.1
---     (omega (arith, so-long c.before, s.requires.1, l.invariant.0))
-
 pub returns : goal.returns
 returns c =
     let so-long :

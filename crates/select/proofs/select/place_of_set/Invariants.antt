@@ -1,4 +1,4 @@
--- FIRST VERSION
+-- What the loop keeps, and the measure that falls.
 use Prim.Native.Nat.{◌-◌, ◌/◌, ◌^◌}
 use mathlib.Core.Path.{◌≡◌}
 use borrow.Author.Rules.{rules}

@@ -1,4 +1,4 @@
--- FIRST VERSION
+-- What the loop keeps, and the measure that falls.
 use Prim.Native.Nat.{◌≤◌}
 use native.Mathlib.Omega.{arith}
 use borrow.Author.Rules.{rules}

@@ -1,4 +1,4 @@
--- FIRST VERSION
+-- The measure that falls.
 use mathlib.Core.Path.{sym, ◌∙◌}
 use native.Mathlib.Omega.{arith}
 use borrow.Author.Rules.{rules}

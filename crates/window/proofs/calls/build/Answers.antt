@@ -123,10 +123,6 @@ slice_bounds-set_trailer-count c =
     let f = fits in
     omega (arith, after_length f _ _ c.build-built.ensures)
 
--- no such goal now: slice-bounds-set-trailer-start
--- part-set-trailer-start : tie.Need-slice-bounds-set-trailer-start
--- part-set-trailer-start c = sub-set-trailer c
-
 pub set_trailer-requires : goal.set_trailer-requires
 set_trailer-requires c =
     let fits : Fits c.args.pool.now
