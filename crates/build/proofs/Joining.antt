@@ -13,7 +13,6 @@ use Rattle.model.proofs.Leaves.{sized_weaken}
 use Rattle.bits.specs.Leaf.{leaf_of}
 use Rattle.pool.specs.Layout.{fork_of}
 use Rattle.pool.specs.Node.{Put}
-use Rattle.pool.specs.declared.node.Fork.{Fork}
 use Rattle.pool.specs.declared.node.Node.TheVariants as Node
 use Rattle.pool.proofs.Standing.{holds_same}
 use Rattle.tree.specs.TreeAt.{TreeAt}

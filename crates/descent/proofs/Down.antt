@@ -6,7 +6,6 @@ use mathlib.Core.Path.{◌≡◌, refl, sym, ap}
 use mathlib.Core.Bool.{Bool, true, false}
 use mathlib.Core.List.Memᴰ
 use mathlib.Core.List.{List, ◌++◌, Memᴰ}
-use Rattle.model.specs.Tree as Tree
 use Rattle.model.specs.Tree.{Tree, fork, top, size, numbers}
 use Rattle.model.proofs.Cases.{by_ltb}
 use Rattle.bits.specs.Leaf.{leaf_of}
@@ -15,7 +14,6 @@ use Rattle.pool.specs.Layout.{Rooted, fork_of}
 use Rattle.pool.specs.Node.{node_at, Put}
 use Rattle.pool.specs.declared.node.Fork.{Fork}
 use Rattle.pool.specs.declared.node.Node.{Node}
-use Rattle.pool.specs.declared.node.Node.TheVariants as Node
 use Rattle.pool.proofs.Standing.{some_level}
 use Rattle.tree.specs.Stepping.{step_left, step_right}
 use Rattle.tree.specs.declared.steps.Step.{Step}

@@ -12,7 +12,6 @@ use mir.Val.{bool_byte}
 use Rattle.model.specs.Edit.{insert, splits, leaf_at}
 use Rattle.model.specs.Marks as Marks
 use Rattle.model.specs.Marks.{count}
-use Rattle.model.specs.Tree as Tree
 use Rattle.model.specs.Tree.{Tree, fork, top, marks, size, height, numbers}
 use Rattle.model.specs.Turn.{rebalance}
 use Rattle.model.specs.Word.{digit}

@@ -12,7 +12,6 @@ use lib.ListN.{length, take, drop}
 use lib.Seq.{take_all, length-take-le}
 use Rattle.model.specs.Marks.{count, rank}
 use Rattle.model.specs.Sound.{Distinct}
-use Rattle.model.specs.Tree as Tree
 use Rattle.model.specs.Tree.{Tree, top, marks, size, height, numbers}
 use Rattle.model.proofs.Cases.{settle_cases}
 use Rattle.bits.specs.Leaf.{bits_of, leaf_of, halves_of}

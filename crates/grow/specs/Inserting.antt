@@ -6,7 +6,6 @@ use Rattle.model.specs.Edit.{insert, leaf_split, settle, splits}
 use Rattle.model.specs.Limits.{levels}
 use Rattle.model.specs.Pool.{Pool}
 use Rattle.model.specs.Sound.{Distinct}
-use Rattle.model.specs.Tree as Tree
 use Rattle.model.specs.Tree.{Tree, size, numbers}
 use Rattle.bits.specs.Leaf.{leaf_of}
 use Rattle.bits.specs.declared.leaf.Leaf.{Leaf}

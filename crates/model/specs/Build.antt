@@ -1,5 +1,5 @@
 -- Building a tree from marks: leaves of 64, joined in rounds, in pairs from the right end.
-use Rattle.std.specs.Prelude.{ℕ, zero, suc, ◌+◌, ◌-◌, ◌/◌, Bool, List, [], ◌∷◌, ◌++◌, reverse, length, take, drop}
+use Rattle.std.specs.Prelude.{ℕ, zero, suc, ◌+◌, ◌-◌, ◌/◌, Bool, List, [], ◌∷◌, reverse, length, take, drop}
 use Rattle.model.specs.Tree.{Tree, leaf, fork}
 
 -- how many marks a built leaf takes, the last one perhaps fewer

@@ -1,6 +1,6 @@
 -- Putting a mark into a tree and taking one out, as the textbooks have it: down to a leaf, and balanced again on the
 -- way back.
-use Rattle.std.specs.Prelude.{ℕ, zero, suc, ◌+◌, ◌-◌, Bool, true, false, List, [], ◌∷◌, ◌++◌, leb, ltb, length, take, drop, get_or}
+use Rattle.std.specs.Prelude.{ℕ, suc, ◌-◌, Bool, true, false, List, [], ◌∷◌, ◌++◌, leb, ltb, length, take, drop, get_or}
 use Rattle.model.specs.Marks as Marks
 use Rattle.model.specs.Tree.{Tree, leaf, fork, top, marks, size, first_leaf, last_leaf, renumber}
 use Rattle.model.specs.Turn.{rebalance}

@@ -1,6 +1,6 @@
 -- A pool of numbered nodes: the tree, and the chain of free numbers beside it. Inserting asks for room first, and is
 -- refused whole where there is none; what a remove frees goes first into the chain.
-use Rattle.std.specs.Prelude.{ℕ, zero, suc, ◌+◌, ◌-◌, ◌*◌, Bool, true, false, ◌&&◌, not, List, [], ◌∷◌, ◌++◌, leb, length, drop}
+use Rattle.std.specs.Prelude.{ℕ, zero, suc, ◌-◌, ◌*◌, Bool, true, false, ◌&&◌, not, List, [], ◌∷◌, ◌++◌, leb, length, drop}
 use Rattle.std.proofs.Math.Option.{Option, none, some}
 use Rattle.model.specs.Tree.{Tree}
 use Rattle.model.specs.Build as Build

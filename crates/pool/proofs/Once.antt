@@ -8,7 +8,6 @@ use mathlib.Core.Logic.{⊎_elim}
 use borrow.Author.Tests.{eqb-true, eqb-false}
 use lib.Dec.{eqb}
 use lib.ListN.{length}
-use Rattle.model.specs.Tree as Tree
 use Rattle.model.specs.Tree.{Tree, numbers}
 use Rattle.model.proofs.Cases.{by_test}
 use Rattle.bits.specs.Leaf.{leaf_of}

@@ -1,25 +1,21 @@
 -- Trees and chains that stand in words. What stands at a tree's own numbers is all that holds it; and words hold one tree and one chain only.
-use Prim.Native.Nat.{ℕ, zero, suc, ◌+◌, ◌-◌, ◌*◌, ◌≤◌, ◌<◌}
+use Prim.Native.Nat.{ℕ, ◌-◌, ◌≤◌}
 use native.Mathlib.Omega.{arith}
 use mathlib.Core.Path.{◌≡◌, refl, sym, ap, ap₂, ◌∙◌}
-use mathlib.Core.Bool.{Bool, true, false}
+use mathlib.Core.Bool.{Bool, false}
 use mathlib.Core.List.Memᴰ
-use mathlib.Core.List.{List, [], ◌∷◌, ◌++◌, Memᴰ}
+use mathlib.Core.List.{List, [], ◌∷◌, Memᴰ}
 use lib.ListN.{length, take, replicate}
 use lib.Seq.{take-append_seam}
-use Rattle.model.specs.Marks.{count}
-use Rattle.model.specs.Pool.{Pool}
 use Rattle.model.specs.Sound.{Sized}
-use Rattle.model.specs.Tree as Tree
-use Rattle.model.specs.Tree.{Tree, top, marks, size, height, numbers}
+use Rattle.model.specs.Tree.{Tree, top, size, height, numbers}
 use Rattle.model.proofs.Leaves.{sized_size, sized_weaken}
 use Rattle.bits.specs.Leaf.{leaf_of, bits_of}
 use Rattle.bits.specs.declared.leaf.Leaf.{Leaf}
 use Rattle.bits.proofs.Held.{held_bits}
 use Rattle.pool.specs.Node.{LeafOrFork, node_at}
-use Rattle.pool.specs.Layout.{fork_of, first_of, Holds, Chained, Laid, Rooted}
+use Rattle.pool.specs.Layout.{fork_of, first_of, Holds, Chained, Rooted}
 use Rattle.pool.specs.declared.node.Fork.{Fork}
-use Rattle.pool.specs.declared.node.Node.{Node}
 use Rattle.pool.specs.declared.node.Node.TheVariants.{Free as free, Leaf as leaf, Fork as fork, Broken as broken}
 
 -- ---- frame: words that agree at the numbers of a tree, or of a chain, hold it too

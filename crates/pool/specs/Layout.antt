@@ -1,11 +1,10 @@
 -- How a pool's state stands in its node words: each node of the tree at its number, and the free chain, each free node
 -- holding the next number.
-use Rattle.std.specs.Prelude.{ℕ, zero, suc, ◌+◌, ◌-◌, ◌*◌, ◌≤◌, ◌≡◌, true, length}
+use Rattle.std.specs.Prelude.{ℕ, ◌+◌, ◌-◌, ◌*◌, ◌≤◌, ◌≡◌, true, length}
 use mathlib.Core.List.{List, [], ◌∷◌, Memᴰ}
 use Rattle.model.specs.Marks.{count}
 use Rattle.model.specs.Pool.{Pool}
-use Rattle.model.specs.Sound.{Sized, Sound}
-use Rattle.model.specs.Tree as Tree
+use Rattle.model.specs.Sound.{Sized}
 use Rattle.model.specs.Tree.{Tree, top, marks, size, height}
 use Rattle.bits.specs.Leaf.{leaf_of}
 use Rattle.pool.specs.Node.{node_words, node_at}

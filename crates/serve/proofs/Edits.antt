@@ -1,12 +1,11 @@
 -- What is left where an order has changed nothing, where a mark was put in, and where one was taken out.
-use Prim.Native.Nat.{ℕ, suc, ◌+◌, ◌-◌, ◌≤◌, ◌<◌, ◌^◌}
+use Prim.Native.Nat.{ℕ, ◌+◌, ◌-◌, ◌≤◌, ◌<◌}
 use native.Mathlib.Omega.{arith}
-use mathlib.Core.Path.{◌≡◌, refl, sym, ap, ◌∙◌}
-use mathlib.Core.Bool.{Bool, true, false}
+use mathlib.Core.Path.{◌≡◌, refl, sym, ◌∙◌}
+use mathlib.Core.Bool.{Bool, false}
 use mathlib.Core.List.Memᴰ
-use mathlib.Core.List.{List, ◌++◌, Memᴰ}
+use mathlib.Core.List.{List}
 use mir.Val.{bool_byte}
-use lib.ListN.{length}
 use Rattle.model.specs.Limits.{levels}
 use Rattle.model.specs.Pool as Pool
 use Rattle.model.specs.Pool.{Pool}
@@ -19,7 +18,7 @@ use Rattle.shrink.specs.Removing.{RemovedFrom, ToRemoveFrom}
 use Rattle.shrink.specs.declared.removing.Removed.{Removed}
 use Rattle.order.specs.Asked.{Asked, inserting, removing, unknown}
 use Rattle.order.specs.Plain.{list_answer}
-use Rattle.serve.specs.Orders.{answer, after, no_room}
+use Rattle.serve.specs.Orders.{answer, after}
 use Rattle.serve.specs.Serving.{Grown, Serves, ToServe}
 use Rattle.order.specs.declared.answer.Answer.{Answer}
 use Rattle.order.specs.declared.answer.Answer.TheVariants.{Done, Malformed}

@@ -1,7 +1,7 @@
 -- What a tree with its free numbers answers to an order, and what it becomes. An order that is not carried out changes
 -- nothing. The answers are the plain list's but for one: an insert that has no room is answered Full. Whether two nodes
 -- may be taken is a rule of those who keep the tree, and is given as a yes or no.
-use Rattle.std.specs.Prelude.{ℕ, Bool, true, false, ◌&&◌, leb, ltb, length}
+use Rattle.std.specs.Prelude.{Bool, true, false, ◌&&◌, leb, ltb, length}
 use Rattle.std.proofs.Math.Option.{Option, none, some}
 use Rattle.model.specs.Pool as Pool
 use Rattle.model.specs.Pool.{Pool}

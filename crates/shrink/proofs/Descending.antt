@@ -16,7 +16,6 @@ use Rattle.model.specs.Edit.{Trimmed, remove}
 use Rattle.model.specs.Marks as Marks
 use Rattle.model.specs.Marks.{access, count}
 use Rattle.model.specs.Sound.{Balanced, Sized, Whole}
-use Rattle.model.specs.Tree as Tree
 use Rattle.model.specs.Tree.{Tree, fork, top, marks, size, height, numbers}
 use Rattle.model.specs.Turn.{rebalance}
 use Rattle.model.specs.Word.{digit}
@@ -32,7 +31,6 @@ use Rattle.pool.specs.Layout.{Holds, Rooted, fork_of}
 use Rattle.pool.specs.Node.{leaf_cell, fork_cell, fork_in, node_at, put, Put}
 use Rattle.pool.specs.declared.node.Fork.{Fork}
 use Rattle.pool.specs.declared.node.Node.{Node}
-use Rattle.pool.specs.declared.node.Node.TheVariants as Node
 use Rattle.pool.proofs.Cells.{put_fork, fork_says}
 use Rattle.pool.proofs.Standing.{chained_same, leaf_small, left_rooted, right_rooted}
 use Rattle.spine.proofs.Edits.{edited_leaf}

@@ -9,7 +9,6 @@ use lib.ListN.{length, length-append}
 use mir.Val.{bool_byte}
 use Rattle.model.specs.Edit.{put_before, put_after, drop_first, drop_last, first_mark, last_mark}
 use Rattle.model.specs.Marks.{count, ones, wanted}
-use Rattle.model.specs.Tree as Tree
 use Rattle.model.specs.Tree.{Tree, top, marks, size, height, numbers, first_leaf, last_leaf}
 use Rattle.model.specs.Word.{number, digit}
 use Rattle.model.proofs.Content.{size_marks, put_after_marks, drop_last_marks}

@@ -1,6 +1,6 @@
 -- What a mended fork is in each case, and what the words hold then. The mended child is a leaf, so a merge lowers the
 -- fork by one level, and after a loan the fork needs no turn.
-use Prim.Native.Nat.{ℕ, suc, ◌+◌, ◌≤◌, ◌<◌}
+use Prim.Native.Nat.{ℕ, suc, ◌≤◌, ◌<◌}
 use native.Mathlib.Omega.{arith}
 use mathlib.Core.Path.{◌≡◌, refl, sym, ap, ◌∙◌}
 use mathlib.Core.Bool.{Bool, true, false}
@@ -11,7 +11,6 @@ use lib.IntN.{pos, negsuc}
 use lib.ListN.{length}
 use Rattle.model.specs.Edit.{Trimmed, put_before, put_after, drop_first, drop_last, first_mark, last_mark}
 use Rattle.model.specs.Sound.{Distinct}
-use Rattle.model.specs.Tree as Tree
 use Rattle.model.specs.Tree.{Tree, top, size, height, numbers, renumber}
 use Rattle.model.proofs.Balance.{rebalance_level}
 use Rattle.model.proofs.Cases.{mend_left_cases, mend_right_cases}

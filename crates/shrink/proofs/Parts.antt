@@ -1,13 +1,12 @@
 -- Edits of the parts of a fork: a node put at another number, both children edited and then the fork above them, and
 -- children's numbers put first in the free chain.
-use Prim.Native.Nat.{ℕ, ◌+◌, ◌<◌}
+use Prim.Native.Nat.{ℕ, ◌<◌}
 use mathlib.Core.Path.{◌≡◌, refl, sym, ap, ◌∙◌}
 use mathlib.Core.Bool.{Bool, true, false}
 use mathlib.Core.List.Memᴰ
 use mathlib.Core.List.{List, [], ◌∷◌, ◌++◌, Memᴰ}
 use mathlib.Core.Logic.{◌⊎◌, inl, inr, ⊎_elim}
 use Rattle.model.specs.Sound.{Distinct}
-use Rattle.model.specs.Tree as Tree
 use Rattle.model.specs.Tree.{Tree, top, numbers, renumber}
 use Rattle.model.proofs.Distincts.{distinct_first, distinct_apart}
 use Rattle.model.proofs.Shape.{shape, alike_numbers}

@@ -5,7 +5,6 @@ use Rattle.model.specs.Edit.{Trimmed, drop_first, drop_last, first_mark, last_ma
 use Rattle.model.specs.Edit.{put_after, put_before}
 use Rattle.model.specs.Edit.{leaf_least}
 use Rattle.model.specs.Sound.{Distinct}
-use Rattle.model.specs.Tree as Tree
 use Rattle.model.specs.Tree.{Tree, marks, size, height, numbers, first_leaf, last_leaf, renumber}
 use Rattle.model.specs.Word.{digit}
 use Rattle.pool.specs.Layout.{Chained, Edited, Rooted, first_of, fork_of}

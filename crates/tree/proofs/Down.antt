@@ -7,7 +7,6 @@ use mathlib.Core.Path.{◌≡◌, refl, sym, ap, ◌∙◌}
 use mathlib.Core.Bool.{Bool, true, false}
 use mathlib.Core.List.{List, ◌++◌}
 use lib.ListN.{length}
-use Rattle.model.specs.Tree as Tree
 use Rattle.model.specs.Tree.{Tree, marks, size}
 use Rattle.model.proofs.Cases.{by_test}
 use Rattle.bits.specs.Choice.{Picked}
@@ -18,7 +17,6 @@ use Rattle.pool.specs.Node.{LeafOrFork, as_node, node_at}
 use Rattle.pool.specs.declared.node.Fork.{Fork}
 use Rattle.pool.specs.declared.node.Node.TheVariants.{Leaf as leaf, Fork as fork}
 use Rattle.pool.specs.declared.node.TreeNode.{TreeNode}
-use Rattle.pool.specs.declared.node.TreeNode.TheVariants as TreeNode
 use Rattle.pool.proofs.Standing.{by_leaf, by_fork, left_rooted, right_rooted, rooted_node, some_level, leaf_small}
 use Rattle.tree.specs.TreeAt.{TreeAt}
 use Rattle.tree.specs.Stepping.{step_left, step_right}

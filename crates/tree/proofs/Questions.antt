@@ -9,8 +9,7 @@ use mathlib.Core.List.{List}
 use mathlib.Core.Option.{Option, none, some}
 use lib.ListN.{length, take, replicate, length-take}
 use Rattle.model.specs.Edit.{leaf_at}
-use Rattle.model.specs.Marks.{access, count, further, ones, rank, select, wanted}
-use Rattle.model.specs.Tree as Tree
+use Rattle.model.specs.Marks.{access, count, further, rank, select, wanted}
 use Rattle.model.specs.Tree.{Tree, marks, size}
 use Rattle.model.specs.Word.{odd}
 use Rattle.model.proofs.Cases.{by_test, by_ltb}
@@ -22,7 +21,6 @@ use Rattle.bits.specs.Leaf.{leaf_of, bits_of}
 use Rattle.select.specs.Select.{placed}
 use Rattle.bits.specs.declared.leaf.Leaf.{Leaf}
 use Rattle.select.specs.declared.select.Place.{Place}
-use Rattle.select.specs.declared.select.Place.TheVariants as Place
 use Rattle.bits.proofs.Held.{held_bits, select_held}
 use Rattle.bits.proofs.TwoWords.{bit_low, bit_high, both_length}
 use Rattle.pool.specs.Layout.{fork_of}

@@ -1,5 +1,5 @@
 -- What build answers by its tests, and that the pool that the model builds then stands in the words.
-use Prim.Native.Nat.{ℕ, suc, ◌+◌, ◌-◌, ◌*◌, ◌/◌, ◌≤◌, ◌<◌}
+use Prim.Native.Nat.{ℕ, ◌+◌, ◌-◌, ◌*◌, ◌≤◌, ◌<◌}
 use native.Mathlib.Omega.{arith}
 use borrow.Rule.Slice.PartMut.{put_mid, post_of}
 use mathlib.Core.Path.{◌≡◌, refl, sym, ap, ap₂, ◌∙◌}
@@ -14,7 +14,7 @@ use Rattle.model.specs.Limits.{most_nodes}
 use Rattle.model.specs.Pool as Pool
 use Rattle.model.specs.Pool.{Pool, nodes_for}
 use Rattle.model.specs.Sound.{Sound}
-use Rattle.model.specs.Tree.{size, top}
+use Rattle.model.specs.Tree.{size}
 use Rattle.model.specs.Word.{marks_of}
 use Rattle.model.proofs.BuiltContent.{build_marks}
 use Rattle.model.proofs.Content.{size_marks}
@@ -25,10 +25,9 @@ use Rattle.build.specs.declared.building.Built as B
 use Rattle.build.proofs.LeafMarks.{marks_of_length}
 use Rattle.build.proofs.OnePool.{builds}
 use Rattle.pool.specs.Node.{nodes_in}
-use Rattle.pool.specs.Layout.{Laid, first_of}
+use Rattle.pool.specs.Layout.{Laid}
 use Rattle.window.specs.Calls.{NoPool, BuildsTo}
 use Rattle.window.specs.Layout.{Counted, Stands, trailer_of}
-use Rattle.order.specs.declared.answer.Answer.{Answer}
 use Rattle.order.specs.declared.answer.Answer.TheVariants.{Done, Full, WrongSize, TooLong}
 use Rattle.window.proofs.OneState.{counted_one, nodes_are, nodes_length, trailer_length}
 

@@ -1,18 +1,15 @@
 -- A pool in words is told by its trailer and its nodes: the words say how many nodes there are, and hold one sound pool at the most.
-use Prim.Native.Nat.{ℕ, zero, suc, ◌+◌, ◌-◌, ◌*◌, ◌/◌, ◌≤◌, ◌<◌}
+use Prim.Native.Nat.{ℕ, ◌*◌}
 use native.Mathlib.Omega.{arith}
-use mathlib.Core.Path.{◌≡◌, refl, sym, ap, ap₂, ◌∙◌}
-use mathlib.Core.Bool.{Bool, true, false}
-use mathlib.Core.List.{List, [], ◌∷◌, ◌++◌}
+use mathlib.Core.Path.{◌≡◌, refl, sym, ap, ◌∙◌}
+use mathlib.Core.List.{List, [], ◌∷◌}
 use lib.ListN.{length, take, drop, get_or, set, length-drop}
 use lib.Seq.{length-take-le}
 use Rattle.model.specs.Pool.{Pool}
-use Rattle.model.specs.Sound.{Sized, Sound, Whole}
-use Rattle.model.specs.Tree as Tree
-use Rattle.model.specs.Tree.{Tree, top, size}
+use Rattle.model.specs.Tree.{top, size}
 use Rattle.model.proofs.Depth.{depth}
 pub use Rattle.model.proofs.Floor.{whole_sized}
-use Rattle.pool.specs.Layout.{Laid, Rooted, first_of}
+use Rattle.pool.specs.Layout.{Rooted}
 use Rattle.pool.specs.Node.{nodes_in}
 use Rattle.pool.proofs.Cells.{nodes_in_of}
 use Rattle.pool.proofs.Standing.{holds_one, chained_one}

@@ -3,10 +3,9 @@
 --
 -- A contract has a case for each thing that the words can be: no pool's, a damaged pool's, or a pool that stands. That one of them is the case
 -- is known doubly negated, which is enough, as answers and words can be compared.
-use Prim.Native.Nat.{ℕ, zero, suc, ◌-◌, ◌*◌, ◌≤◌, ◌<◌}
+use Prim.Native.Nat.{ℕ, ◌*◌, ◌≤◌}
 use native.Mathlib.Omega.{arith}
 use mathlib.Core.Path.{◌≡◌, refl, sym, ap, ap₂, ◌∙◌}
-use mathlib.Core.Bool.{Bool, true, false}
 use mathlib.Core.List.{List, [], ◌∷◌, ◌++◌}
 use mathlib.Core.Option.{Option, none, some}
 use lib.ListN.{length, take, drop, get_or, take-append-drop}
@@ -19,7 +18,7 @@ use Rattle.model.proofs.Cases.{by_ltb}
 use Rattle.build.proofs.OnePool.{laid_one}
 use Rattle.order.specs.Answer.{code, value}
 use Rattle.window.specs.Calls.{NoPool, Damaged, Checked, BuildsTo, Judges, Measures, Valued}
-use Rattle.window.specs.Layout.{Counted, Stands, WellFormed}
+use Rattle.window.specs.Layout.{Counted, Stands}
 use Rattle.order.specs.declared.answer.Answer.{Answer}
 use Rattle.order.specs.declared.answer.Answer.TheVariants.{Done, OutOfRange, NoZeroth, TooFew, Full, Malformed, WrongSize, NotSound, ShortOutput, PartOrder, TooLong, LeafLacks}
 use Rattle.window.specs.declared.calls.Judgement.{Judgement}

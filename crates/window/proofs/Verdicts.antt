@@ -1,8 +1,8 @@
 -- The calls' answers by what the words are: no pool's, a damaged pool's, or a pool that stands. The three exclude one
 -- another, so each answer is right.
-use Prim.Native.Nat.{ℕ, ◌*◌, ◌≤◌, ◌<◌}
+use Prim.Native.Nat.{ℕ, ◌≤◌, ◌<◌}
 use native.Mathlib.Omega.{arith}
-use mathlib.Core.Path.{◌≡◌, refl, sym, ap, ◌∙◌}
+use mathlib.Core.Path.{◌≡◌, refl, ap, ◌∙◌}
 use mathlib.Core.Bool.{Bool, false}
 use mathlib.Core.List.{List, ◌++◌}
 use lib.ListN.{length, drop}
@@ -10,9 +10,8 @@ use Rattle.model.specs.Pool.{Pool}
 use Rattle.model.specs.Says.{Says}
 use Rattle.model.specs.Tree.{marks, size}
 use Rattle.model.specs.Word.{words_for, words_of}
-use Rattle.window.specs.Calls.{NoPool, Damaged, Checked, Valued}
+use Rattle.window.specs.Calls.{NoPool, Checked, Valued}
 use Rattle.window.specs.Layout.{Counted, Stands, WellFormed}
-use Rattle.order.specs.declared.answer.Answer.{Answer}
 use Rattle.order.specs.declared.answer.Answer.TheVariants.{Done, WrongSize, NotSound, ShortOutput}
 use Rattle.window.proofs.OneState.{one_state}
 

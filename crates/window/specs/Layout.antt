@@ -1,7 +1,7 @@
 -- A pool in words: the nodes, and then a trailer of six words that points back into them.
 --
 --     root, length, first free (N for none), count of free nodes, N, 0
-use Rattle.std.specs.Prelude.{ℕ, zero, suc, ◌+◌, ◌*◌, ◌≤◌, ◌≡◌, List, [], ◌∷◌, length, take, drop, get_or}
+use Rattle.std.specs.Prelude.{ℕ, suc, ◌*◌, ◌≤◌, ◌≡◌, List, [], ◌∷◌, length, take, drop, get_or}
 use Rattle.model.specs.Limits.{most_nodes}
 use Rattle.model.specs.Pool.{Pool}
 use Rattle.model.specs.Sound.{Sound}

@@ -1,23 +1,21 @@
 -- Each pass frees one more number, which holds the next. Assumes nothing.
-use Prim.Native.Nat.{ℕ, ◌+◌, ◌-◌, ◌≤◌}
+use Prim.Native.Nat.{ℕ, ◌+◌, ◌-◌}
 use native.Mathlib.Omega.{arith}
-use borrow.Author.Rules.{rules}
 use mathlib.Core.Path.{◌≡◌, refl, ap}
 use Rattle.pool.specs.Node.{nodes_in}
-use Rattle.build.proofs.FreeChain.{Freed, chained_from, none_freed, one_freed}
+use Rattle.build.proofs.FreeChain.{chained_from, none_freed, one_freed}
 use Rattle.build.proofs.building.chain_from.Goals as goal
 
 pub loop-n-init : goal.loop-n-init
 loop-n-init c = (omega arith, omega arith, none_freed c.args.nodes.now c.args.first)
 
 pub loop-n-preserved : goal.loop-n-preserved
-loop-n-preserved c =
-    (
-      omega arith,
-      omega arith,
-      one_freed c.set_free.new.nodes c.loop-n.invariant.2 (omega arith) (omega (arith, c.node_count-end.ensures))
-          c.set_free.ensures,
-    )
+loop-n-preserved c = (
+  omega arith,
+  omega arith,
+  one_freed c.set_free.new.nodes c.loop-n.invariant.2 (omega arith) (omega (arith, c.node_count-end.ensures))
+      c.set_free.ensures,
+)
 
 pub returns : goal.returns
 returns c =

@@ -1,10 +1,6 @@
 -- What the loop keeps, and the measure that falls.
-use Prim.Native.Nat.{ℕ, ◌+◌, ◌-◌, ◌≤◌}
-use native.Mathlib.Omega.{arith}
-use borrow.Author.Rules.{rules}
-use mathlib.Core.Path.{◌≡◌, refl, ap}
-use Rattle.pool.specs.Node.{nodes_in}
-use Rattle.build.proofs.FreeChain.{Freed, chained_from, none_freed, one_freed}
+use Prim.Native.Nat.{◌-◌, ◌≤◌}
+use Rattle.build.proofs.FreeChain.{Freed}
 use Rattle.build.proofs.building.chain_from.Given as goal
 
 abbrev pub invariant-loop-n : goal.invariant-loop-n

@@ -1,5 +1,4 @@
 -- A word alone in a leaf, cut after so many marks: zeros past the marks change no leaf. Assumes nothing.
-use borrow.Author.Rules.{rules}
 use mathlib.Core.Path.{◌∙◌}
 use Rattle.build.proofs.LeafMarks.{first_of_word}
 use Rattle.build.proofs.building.first_marks.Goals as goal

@@ -2,7 +2,6 @@
 use Prim.Native.Nat.{ℕ, zero, suc, ◌-◌, ◌+◌, ◌/◌}
 use native.Mathlib.Omega.{arith}
 use mathlib.Core.Path.{◌≡◌}
-use borrow.Author.Rules.{rules}
 use Rattle.model.specs.Build.{leaf_count}
 use Rattle.build.proofs.building.leaf_count.Goals as goal
 

@@ -1,9 +1,8 @@
 -- Each pass joins one pair more; then the last pair is joined, and an odd tree to it. Assumes nothing.
-use Prim.Native.Nat.{ℕ, suc, ◌+◌, ◌-◌, ◌*◌, ◌/◌, ◌^◌, ◌<◌, ◌≤◌}
+use Prim.Native.Nat.{ℕ, suc, ◌+◌, ◌-◌, ◌/◌, ◌^◌, ◌<◌, ◌≤◌}
 use native.Mathlib.Numerals.{add-one}
 use native.Mathlib.Omega.{arith}
-use borrow.Author.Rules.{rules}
-use mathlib.Core.Path.{◌≡◌, refl, ◌∙◌}
+use mathlib.Core.Path.{◌≡◌, refl}
 use mathlib.Core.List.{List}
 use lib.ListN.{length}
 use Rattle.model.specs.Tree.{Tree}
@@ -11,7 +10,7 @@ use Rattle.model.specs.Build.{round}
 use Rattle.build.specs.Waiting.{Ready, Rounded, Waiting, row_above}
 use Rattle.build.specs.declared.building.Item.{Item}
 use Rattle.build.specs.declared.building.Row.{Row}
-use Rattle.build.proofs.Pairing.{Parted, even_ends, last_joinable, low, no_pair, odd_ends, odd_joinable, pair_joinable, pair_more, small_total}
+use Rattle.build.proofs.Pairing.{even_ends, last_joinable, low, no_pair, odd_ends, odd_joinable, pair_joinable, pair_more, small_total}
 use Rattle.build.proofs.building.round.Goals as goal
 
 -- a place of the row has a number that fits

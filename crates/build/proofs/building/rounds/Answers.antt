@@ -1,14 +1,8 @@
 -- Each round leaves half the trees, and the rounds to come still make the same tree. Assumes nothing.
-use Prim.Native.Nat.{◌+◌, ◌-◌, ◌*◌, ◌≤◌}
+use Prim.Native.Nat.{◌-◌, ◌*◌}
 use native.Mathlib.Omega.{arith}
-use borrow.Author.Rules.{rules}
 use mathlib.Core.Path.{◌≡◌, refl}
-use mathlib.Core.List.{List}
-use lib.ListN.{length}
-use Rattle.model.specs.Build as Build
-use Rattle.model.specs.Tree.{Tree}
-use Rattle.build.specs.Waiting.{Waiting}
-use Rattle.build.proofs.Rounds.{InRounds, first_round, last_round, round_over}
+use Rattle.build.proofs.Rounds.{first_round, last_round, round_over}
 use Rattle.build.proofs.building.rounds.Goals as goal
 
 pub loop-row-init : goal.loop-row-init

@@ -1,14 +1,12 @@
 -- What the loop keeps, and the measure that falls.
-use Prim.Native.Nat.{◌+◌, ◌-◌, ◌*◌, ◌≤◌}
-use native.Mathlib.Omega.{arith}
-use borrow.Author.Rules.{rules}
-use mathlib.Core.Path.{◌≡◌, refl}
+use Prim.Native.Nat.{◌+◌, ◌*◌, ◌≤◌}
+use mathlib.Core.Path.{◌≡◌}
 use mathlib.Core.List.{List}
 use lib.ListN.{length}
 use Rattle.model.specs.Build as Build
 use Rattle.model.specs.Tree.{Tree}
 use Rattle.build.specs.Waiting.{Waiting}
-use Rattle.build.proofs.Rounds.{InRounds, first_round, last_round, round_over}
+use Rattle.build.proofs.Rounds.{InRounds}
 use Rattle.build.proofs.building.rounds.Given as goal
 
 abbrev pub invariant-loop-row : goal.invariant-loop-row

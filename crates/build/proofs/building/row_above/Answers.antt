@@ -1,6 +1,5 @@
 -- Each field is as it stands. Assumes nothing.
 use native.Mathlib.Numerals.{add-one}
-use borrow.Author.Rules.{rules}
 use Prim.Native.Nat.{◌*◌, ◌/◌}
 use Rattle.build.proofs.building.row_above.Goals as goal
 

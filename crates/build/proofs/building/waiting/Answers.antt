@@ -1,7 +1,6 @@
 -- Leaves have height 0, and their numbers fall; all others' rise. Assumes nothing.
 use Prim.Native.Nat.{ℕ, zero, suc, ◌+◌, ◌-◌}
 use native.Mathlib.Omega.{arith}
-use borrow.Author.Rules.{rules}
 use mathlib.Core.Path.{◌≡◌, refl}
 use Rattle.build.specs.Waiting.{number_at}
 use Rattle.build.proofs.building.waiting.Goals as goal

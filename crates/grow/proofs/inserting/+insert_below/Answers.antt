@@ -1,10 +1,9 @@
 -- At a leaf the mark goes in and the leaf is settled; at a fork, which counts the mark, it goes to the child, and the
 -- fork is balanced again where the child has grown. Assumes nothing.
-use Prim.Native.Nat.{ℕ, ◌+◌, ◌<◌, ◌^◌}
+use Prim.Native.Nat.{◌+◌, ◌<◌, ◌^◌}
 use native.Mathlib.Omega.{arith}
 use mathlib.Core.Bool.{◌&&◌}
 use mathlib.Core.Path.{◌≡◌, sym, ap, ◌∙◌}
-use borrow.Author.Rules.{rules}
 use mir.Syntax.{w64}
 use mir.Val.{to_z}
 use Rattle.pool.specs.Node.{as_node, node_at}
@@ -66,15 +65,15 @@ pub insert_below-change-requires : goal.insert_below-change-requires
 insert_below-change-requires t c =
     let read-fork : node_at c.args.nodes.now c.args.n ≡ Node.Fork c.in-Fork.fork = sym c.leaf_or_fork.ensures ∙ ap as_node c.in-Fork.is in
     let step :
-        let a = c.args in
-        Counted a.nodes.now c.set_left.new.nodes a.n a.length a.index a.bit c.in-Fork.fork
-        c.toward-step.result = let toward = c.toward-step in
-        counted_here c.args.bit
-        (record {
-          read = read-fork;
-          toward = record { to_left = toward.ensures.value; to_right = toward.ensures.value_2 };
-        })
-        c.set_left.ensures in
+    let a = c.args in
+    Counted a.nodes.now c.set_left.new.nodes a.n a.length a.index a.bit c.in-Fork.fork
+    c.toward-step.result = let toward = c.toward-step in
+    counted_here c.args.bit
+    (record {
+      read = read-fork;
+      toward = record { to_left = toward.ensures.value; to_right = toward.ensures.value_2 };
+    })
+    c.set_left.ensures in
     let b = c.requires in
     (omega (arith, c.decreases, fork_level b.at.site.rooted (step).step.read), to_child (step) b)
 
@@ -82,19 +81,19 @@ pub returns-then-change-eq0 : goal.returns-then-change-eq0
 returns-then-change-eq0 t c =
     let read-fork : node_at c.args.nodes.now c.args.n ≡ Node.Fork c.in-Fork.fork = sym c.leaf_or_fork.ensures ∙ ap as_node c.in-Fork.is in
     let step :
-        let a = c.args in
-        Counted a.nodes.now c.set_left.new.nodes a.n a.length a.index a.bit c.in-Fork.fork
-        c.toward-step.result = let toward = c.toward-step in
-        counted_here c.args.bit
-        (record {
-          read = read-fork;
-          toward = record { to_left = toward.ensures.value; to_right = toward.ensures.value_2 };
-        })
-        c.set_left.ensures in
+    let a = c.args in
+    Counted a.nodes.now c.set_left.new.nodes a.n a.length a.index a.bit c.in-Fork.fork
+    c.toward-step.result = let toward = c.toward-step in
+    counted_here c.args.bit
+    (record {
+      read = read-fork;
+      toward = record { to_left = toward.ensures.value; to_right = toward.ensures.value_2 };
+    })
+    c.set_left.ensures in
     let done : (b : (ToInsert c.args.nodes.now c.args.n c.args.levels c.args.head.now c.args.length c.args.index))
-        → Inserted (to_child (step) b) c.insert_below-change.new.nodes c.insert_below-change.new.head (held c.insert_below-change.result)
-        c.args.bit = λ b. after_held c.insert_below-change.result (record { sfits = c.insert_below-change.type_inv })
-        (c.insert_below-change.ensures (to_child (step) b)) in
+    → Inserted (to_child (step) b) c.insert_below-change.new.nodes c.insert_below-change.new.head (held c.insert_below-change.result)
+    c.args.bit = λ b. after_held c.insert_below-change.result (record { sfits = c.insert_below-change.type_inv })
+    (c.insert_below-change.ensures (to_child (step) b)) in
     λ b.
     insert_level (step) b (done b) (ap (to_z w64) c.if-change-eq0.true)
 
@@ -102,19 +101,19 @@ pub child_changed-requires : goal.child_changed-requires
 child_changed-requires t c =
     let read-fork : node_at c.args.nodes.now c.args.n ≡ Node.Fork c.in-Fork.fork = sym c.leaf_or_fork.ensures ∙ ap as_node c.in-Fork.is in
     let step :
-        let a = c.args in
-        Counted a.nodes.now c.set_left.new.nodes a.n a.length a.index a.bit c.in-Fork.fork
-        c.toward-step.result = let toward = c.toward-step in
-        counted_here c.args.bit
-        (record {
-          read = read-fork;
-          toward = record { to_left = toward.ensures.value; to_right = toward.ensures.value_2 };
-        })
-        c.set_left.ensures in
+    let a = c.args in
+    Counted a.nodes.now c.set_left.new.nodes a.n a.length a.index a.bit c.in-Fork.fork
+    c.toward-step.result = let toward = c.toward-step in
+    counted_here c.args.bit
+    (record {
+      read = read-fork;
+      toward = record { to_left = toward.ensures.value; to_right = toward.ensures.value_2 };
+    })
+    c.set_left.ensures in
     let done : (b : (ToInsert c.args.nodes.now c.args.n c.args.levels c.args.head.now c.args.length c.args.index))
-        → Inserted (to_child (step) b) c.insert_below-change.new.nodes c.insert_below-change.new.head (held c.insert_below-change.result)
-        c.args.bit = λ b. after_held c.insert_below-change.result (record { sfits = c.insert_below-change.type_inv })
-        (c.insert_below-change.ensures (to_child (step) b)) in
+    → Inserted (to_child (step) b) c.insert_below-change.new.nodes c.insert_below-change.new.head (held c.insert_below-change.result)
+    c.args.bit = λ b. after_held c.insert_below-change.result (record { sfits = c.insert_below-change.type_inv })
+    (c.insert_below-change.ensures (to_child (step) b)) in
     let b = c.requires in
     insert_stale (step) b (done b)
 
@@ -133,19 +132,19 @@ pub returns-else-change-eq0 : goal.returns-else-change-eq0
 returns-else-change-eq0 t c =
     let read-fork : node_at c.args.nodes.now c.args.n ≡ Node.Fork c.in-Fork.fork = sym c.leaf_or_fork.ensures ∙ ap as_node c.in-Fork.is in
     let step :
-        let a = c.args in
-        Counted a.nodes.now c.set_left.new.nodes a.n a.length a.index a.bit c.in-Fork.fork
-        c.toward-step.result = let toward = c.toward-step in
-        counted_here c.args.bit
-        (record {
-          read = read-fork;
-          toward = record { to_left = toward.ensures.value; to_right = toward.ensures.value_2 };
-        })
-        c.set_left.ensures in
+    let a = c.args in
+    Counted a.nodes.now c.set_left.new.nodes a.n a.length a.index a.bit c.in-Fork.fork
+    c.toward-step.result = let toward = c.toward-step in
+    counted_here c.args.bit
+    (record {
+      read = read-fork;
+      toward = record { to_left = toward.ensures.value; to_right = toward.ensures.value_2 };
+    })
+    c.set_left.ensures in
     let done : (b : (ToInsert c.args.nodes.now c.args.n c.args.levels c.args.head.now c.args.length c.args.index))
-        → Inserted (to_child (step) b) c.insert_below-change.new.nodes c.insert_below-change.new.head (held c.insert_below-change.result)
-        c.args.bit = λ b. after_held c.insert_below-change.result (record { sfits = c.insert_below-change.type_inv })
-        (c.insert_below-change.ensures (to_child (step) b)) in
+    → Inserted (to_child (step) b) c.insert_below-change.new.nodes c.insert_below-change.new.head (held c.insert_below-change.result)
+    c.args.bit = λ b. after_held c.insert_below-change.result (record { sfits = c.insert_below-change.type_inv })
+    (c.insert_below-change.ensures (to_child (step) b)) in
     λ b.
     let changed = c.child_changed in
     after_held changed.result (record { sfits = changed.type_inv })

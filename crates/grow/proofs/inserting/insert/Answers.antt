@@ -1,6 +1,5 @@
 -- The insert below does it; its head tells whether a leaf was split. Assumes nothing.
 use native.Mathlib.Omega.{arith}
-use borrow.Author.Rules.{rules}
 use Rattle.grow.proofs.HandedBack.{chain_stays, chain_two, chain_moves}
 use Rattle.grow.proofs.inserting.insert.Goals as goal
 

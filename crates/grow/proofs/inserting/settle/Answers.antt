@@ -1,6 +1,5 @@
 -- Below 128 marks the leaf is put as it is; the split has its own law. Assumes nothing.
 use native.Mathlib.Omega.{arith}
-use borrow.Author.Rules.{rules}
 use Rattle.grow.proofs.Splitting.{settled, full_now, full_split}
 use Rattle.grow.proofs.inserting.settle.Goals as goal
 

@@ -1,5 +1,4 @@
 -- Two numbers are free, and the steps are those of the law, in its order. Assumes nothing.
-use borrow.Author.Rules.{rules}
 use mathlib.Core.Path.{refl}
 use Rattle.grow.proofs.Splitting.{split_done, split_next, split_two}
 use Rattle.grow.proofs.inserting.split.Goals as goal

@@ -1,6 +1,5 @@
 -- A leaf's sixth word is 0, and a fork's is its balance. Assumes nothing.
-use borrow.Author.Rules.{rules}
-use mathlib.Core.Path.{◌≡◌, ap, sym, ◌∙◌}
+use mathlib.Core.Path.{ap, ◌∙◌}
 use Rattle.pool.specs.Node.{node_at}
 use Rattle.pool.specs.declared.node.Cell.{Cell}
 use Rattle.pool.proofs.Cells.{a_balance, tree_node_cell, tree_node_in}

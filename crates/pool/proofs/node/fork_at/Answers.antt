@@ -1,6 +1,5 @@
 -- The fork that stands at n is in its words. Assumes nothing.
-use borrow.Author.Rules.{rules}
-use mathlib.Core.Path.{◌≡◌, ap, sym, ◌∙◌}
+use mathlib.Core.Path.{ap, sym, ◌∙◌}
 use Rattle.pool.specs.Node.{fork_in, fork_words}
 use Rattle.pool.proofs.Cells.{fork_says}
 use Rattle.pool.proofs.node.fork_at.Goals as goal

@@ -1,6 +1,5 @@
 -- The leaf that stands at n is in its words. Assumes nothing.
-use borrow.Author.Rules.{rules}
-use mathlib.Core.Path.{◌≡◌, ap, sym, ◌∙◌}
+use mathlib.Core.Path.{ap, sym, ◌∙◌}
 use Rattle.pool.specs.Node.{leaf_in, leaf_words}
 use Rattle.pool.proofs.Cells.{leaf_says}
 use Rattle.pool.proofs.node.leaf_at.Goals as goal

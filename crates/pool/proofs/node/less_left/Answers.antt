@@ -1,6 +1,5 @@
 -- The fork that is read is the one that stands there. Assumes nothing.
 use native.Mathlib.Omega.{arith}
-use borrow.Author.Rules.{rules}
 use mathlib.Core.Path.{◌≡◌, ap, ◌∙◌}
 use Rattle.pool.specs.Node.{fork_in}
 use Rattle.pool.specs.declared.node.Fork.{Fork}

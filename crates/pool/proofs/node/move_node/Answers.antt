@@ -1,6 +1,5 @@
 -- The words of the one number are put at the other. Assumes nothing.
-use borrow.Author.Rules.{rules}
-use mathlib.Core.Path.{◌≡◌, ap, sym, ◌∙◌}
+use mathlib.Core.Path.{ap, ◌∙◌}
 use Rattle.pool.specs.Node.{node_at, put}
 use Rattle.pool.proofs.Cells.{put_words, tree_node_cell, tree_node_in}
 use Rattle.pool.proofs.node.move_node.Goals as goal

@@ -1,7 +1,5 @@
 -- The free node that stands at n holds the next number. Assumes nothing.
-use borrow.Author.Rules.{rules}
-use mathlib.Core.Path.{◌≡◌, ap, sym, ◌∙◌}
-use Prim.Native.Nat.{ℕ}
+use mathlib.Core.Path.{ap, sym, ◌∙◌}
 use Rattle.pool.specs.Node.{next_in, nodes_in}
 use Rattle.pool.specs.declared.node.Cell.{Cell}
 use Rattle.pool.proofs.Cells.{free_says}

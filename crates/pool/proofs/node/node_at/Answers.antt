@@ -1,6 +1,5 @@
 -- A number in range has its six words' node. Assumes nothing.
 use native.Mathlib.Omega.{arith}
-use borrow.Author.Rules.{rules}
 use mathlib.Core.Path.{sym, ap, ◌∙◌}
 use Rattle.pool.specs.Node.{node_of}
 use Rattle.pool.proofs.Cells.{node_in, node_out}

@@ -1,9 +1,7 @@
 -- Six stores within the node's own words, which are within the list. Assumes nothing.
 use native.Mathlib.Omega.{arith}
-use borrow.Author.Rules.{rules}
 use borrow.Author.Tests.{lt-ltb}
 use mathlib.Core.Path.{sym}
-use lib.ListN.{length-set}
 use Rattle.pool.specs.Node.{nodes_in, put}
 use Rattle.pool.proofs.Cells.{put_out}
 use Rattle.pool.proofs.node.put_cell.Goals as goal

@@ -1,7 +1,6 @@
 -- The marks of the low word go by, and then those of the high one. Assumes nothing.
 use Prim.Native.Nat.{◌-◌}
 use native.Mathlib.Omega.{arith}
-use borrow.Author.Rules.{rules}
 use mathlib.Core.Path.{sym, ap, ◌∙◌}
 use Rattle.model.specs.Word.{bits}
 use Rattle.model.proofs.Words.{bits_length}

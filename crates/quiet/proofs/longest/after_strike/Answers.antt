@@ -1,7 +1,4 @@
 -- The strike ends the quiet frames since the last one, if there was one. Assumes nothing.
-use mathlib.Core.Logic.{⊎_elim}
-use borrow.Author.Rules.{rules}
-use borrow.Author.Tests.{ltb-true, ltb-false}
 use Rattle.quiet.proofs.Passed.{strike_longer, strike_shorter, strike_first}
 use Rattle.quiet.specs.Watching.{later}
 use Rattle.quiet.proofs.longest.after_strike.Goals as goal

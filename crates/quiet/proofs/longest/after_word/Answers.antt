@@ -1,11 +1,10 @@
 -- What is left of the word goes by after what has gone by, as the whole word does from the start. Assumes nothing.
-use Prim.Native.Nat.{◌+◌, ◌-◌, ◌^◌, ◌≤◌, ◌<◌}
+use Prim.Native.Nat.{◌-◌}
 use native.Mathlib.Omega.{arith}
-use mathlib.Core.Path.{◌≡◌, refl, ◌∙◌}
+use mathlib.Core.Path.{refl, ◌∙◌}
 use lib.Count.{trailing_le}
 use lib.Pow.{shr_le}
-use Rattle.model.specs.Word.{bits}
-use Rattle.quiet.specs.Watching.{later, watched}
+use Rattle.quiet.specs.Watching.{later}
 use Rattle.quiet.proofs.Passed.{above, gap, run, run_some, strike_since, word_quiet, word_struck, word_strikes}
 use Rattle.quiet.proofs.longest.after_word.Goals as goal
 

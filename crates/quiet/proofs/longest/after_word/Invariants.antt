@@ -1,12 +1,8 @@
 -- What the loop keeps, and the measure that falls.
-use Prim.Native.Nat.{◌+◌, ◌-◌, ◌^◌, ◌≤◌, ◌<◌}
-use native.Mathlib.Omega.{arith}
-use mathlib.Core.Path.{◌≡◌, refl, ◌∙◌}
-use lib.Count.{trailing_le}
-use lib.Pow.{shr_le}
+use Prim.Native.Nat.{◌+◌, ◌^◌, ◌≤◌, ◌<◌}
+use mathlib.Core.Path.{◌≡◌}
 use Rattle.model.specs.Word.{bits}
-use Rattle.quiet.specs.Watching.{later, watched}
-use Rattle.quiet.proofs.Passed.{above, gap, run, run_some, strike_since, word_quiet, word_struck, word_strikes}
+use Rattle.quiet.specs.Watching.{watched}
 use Rattle.quiet.proofs.longest.after_word.Given as goal
 
 abbrev pub invariant-loop-left : goal.invariant-loop-left

@@ -1,5 +1,4 @@
 -- The word itself for ones, its complement for zeros. Assumes nothing.
-use borrow.Author.Rules.{rules}
 use Rattle.select.proofs.select.chosen32.Goals as goal
 
 pub returns-else-bit : goal.returns-else-bit

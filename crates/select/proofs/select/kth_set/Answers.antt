@@ -1,6 +1,5 @@
 -- There is none for k = 0, nor where fewer bits are set; else the search finds it. Assumes nothing.
 use native.Mathlib.Omega.{arith}
-use borrow.Author.Rules.{rules}
 use Rattle.model.specs.Word.{bits}
 use Rattle.model.proofs.Counting.{place_none, place_zero}
 use Rattle.select.specs.Select.{placed}

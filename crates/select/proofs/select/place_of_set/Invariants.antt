@@ -1,13 +1,6 @@
 -- What the loop keeps, and the measure that falls.
-use Prim.Native.Nat.{◌-◌, ◌/◌, ◌^◌}
-use mathlib.Core.Path.{◌≡◌}
-use borrow.Author.Rules.{rules}
-use native.Mathlib.Omega.{arith}
-use lib.Bits.{bit_and}
-use Rattle.model.specs.Marks.{ones}
-use Rattle.model.specs.Word.{bits}
-use Rattle.select.specs.Select.{InField, sums_of}
-use Rattle.select.proofs.Search.{InBytes, bytes_begin, byte_reached, byte_passed, held}
+use Prim.Native.Nat.{◌-◌}
+use Rattle.select.proofs.Search.{InBytes}
 use Rattle.select.proofs.select.place_of_set.Given as goal
 
 abbrev pub invariant-loop-left : goal.invariant-loop-left

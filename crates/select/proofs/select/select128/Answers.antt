@@ -1,7 +1,6 @@
 -- The first word is searched where it has k of the wanted bits, else the second for those that it lacks. Assumes nothing.
-use Prim.Native.Nat.{ℕ, ◌+◌, ◌-◌, ◌<◌}
+use Prim.Native.Nat.{ℕ, ◌<◌}
 use native.Mathlib.Omega.{arith}
-use borrow.Author.Rules.{rules}
 use mathlib.Core.Path.{◌≡◌, sym, ap, ◌∙◌}
 use mathlib.Core.List.{◌++◌}
 use Rattle.model.specs.Marks.{count, select}
@@ -15,7 +14,7 @@ use Rattle.select.proofs.select.select128.Goals as goal
 pub returns-then-k-in_low : goal.returns-then-k-in_low
 returns-then-k-in_low c =
     let in-first : c.ones64-in_low.result ≡ count c.args.bit (bits 64 c.args.low) =
-        c.ones64-in_low.ensures ∙ count_is 64 c.args.bit c.args.low c.ranges.low.fits c.chosen64.ensures in
+    c.ones64-in_low.ensures ∙ count_is 64 c.args.bit c.args.low c.ranges.low.fits c.chosen64.ensures in
     let n = in-first in
     let s = c.args in
     in_low s.bit s.k (bits 64 s.low) (bits 64 s.high) _ (omega arith) c.select64.ensures
@@ -28,21 +27,21 @@ overflow_add-result c =
 pub returns-in-At : goal.returns-in-At
 returns-in-At c =
     let in-first : c.ones64-in_low.result ≡ count c.args.bit (bits 64 c.args.low) =
-        c.ones64-in_low.ensures ∙ count_is 64 c.args.bit c.args.low c.ranges.low.fits c.chosen64.ensures in
+    c.ones64-in_low.ensures ∙ count_is 64 c.args.bit c.args.low c.ranges.low.fits c.chosen64.ensures in
     let in-second :
-        beyond 64 c.select64-2.result ≡ placed (select c.args.bit c.args.k (bits 64 c.args.low ++ bits 64 c.args.high)) = let n = in-first in
-        let s = c.args in
-        ap (λ (x : ℕ). beyond x c.select64-2.result) (sym (bits_length 64 s.low))
-        ∙ in_high s.bit s.k (bits 64 s.low) (bits 64 s.high) _ (omega arith) (rw n at c.select64-2.ensures) in
+    beyond 64 c.select64-2.result ≡ placed (select c.args.bit c.args.k (bits 64 c.args.low ++ bits 64 c.args.high)) = let n = in-first in
+    let s = c.args in
+    ap (λ (x : ℕ). beyond x c.select64-2.result) (sym (bits_length 64 s.low))
+    ∙ in_high s.bit s.k (bits 64 s.low) (bits 64 s.high) _ (omega arith) (rw n at c.select64-2.ensures) in
     ap (beyond 64) (sym c.in-At.is) ∙ in-second
 
 pub returns-in-Nothing : goal.returns-in-Nothing
 returns-in-Nothing c =
     let in-first : c.ones64-in_low.result ≡ count c.args.bit (bits 64 c.args.low) =
-        c.ones64-in_low.ensures ∙ count_is 64 c.args.bit c.args.low c.ranges.low.fits c.chosen64.ensures in
+    c.ones64-in_low.ensures ∙ count_is 64 c.args.bit c.args.low c.ranges.low.fits c.chosen64.ensures in
     let in-second :
-        beyond 64 c.select64-2.result ≡ placed (select c.args.bit c.args.k (bits 64 c.args.low ++ bits 64 c.args.high)) = let n = in-first in
-        let s = c.args in
-        ap (λ (x : ℕ). beyond x c.select64-2.result) (sym (bits_length 64 s.low))
-        ∙ in_high s.bit s.k (bits 64 s.low) (bits 64 s.high) _ (omega arith) (rw n at c.select64-2.ensures) in
+    beyond 64 c.select64-2.result ≡ placed (select c.args.bit c.args.k (bits 64 c.args.low ++ bits 64 c.args.high)) = let n = in-first in
+    let s = c.args in
+    ap (λ (x : ℕ). beyond x c.select64-2.result) (sym (bits_length 64 s.low))
+    ∙ in_high s.bit s.k (bits 64 s.low) (bits 64 s.high) _ (omega arith) (rw n at c.select64-2.ensures) in
     ap (beyond 64) (sym c.in-Nothing.is) ∙ in-second

@@ -1,6 +1,5 @@
 -- The wanted bits are the set ones of the word chosen for them, searched as a word of 64. Assumes nothing.
 use mathlib.Core.Path.{◌≡◌, refl, ◌∙◌}
-use borrow.Author.Rules.{rules}
 use Rattle.model.specs.Marks.{ones}
 use Rattle.model.specs.Word.{bits}
 use Rattle.select.proofs.Widths.{chosen_count, chosen_place}
@@ -14,5 +13,5 @@ returns c =
 pub kth_set-requires : goal.kth_set-requires
 kth_set-requires c =
     let set-bits : c.ones32.result ≡ ones (bits 64 c.chosen32-value.result) =
-        c.ones32.ensures ∙ chosen_count 32 32 refl c.args.bit c.args.word c.ranges.word.fits c.chosen32-value.ensures in
+    c.ones32.ensures ∙ chosen_count 32 32 refl c.args.bit c.args.word c.ranges.word.fits c.chosen32-value.ensures in
     set-bits

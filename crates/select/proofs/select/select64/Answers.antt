@@ -1,6 +1,5 @@
 -- The wanted bits are the set ones of the word chosen for them, searched as a word of 64. Assumes nothing.
 use mathlib.Core.Path.{refl, ◌∙◌}
-use borrow.Author.Rules.{rules}
 use Rattle.select.proofs.Widths.{chosen_place}
 use Rattle.select.proofs.select.select64.Goals as goal
 

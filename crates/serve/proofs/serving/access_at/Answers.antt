@@ -1,6 +1,5 @@
 -- The place is beyond the marks, or the tree is asked. Assumes nothing.
 use native.Mathlib.Omega.{arith}
-use borrow.Author.Rules.{rules}
 use Rattle.serve.proofs.Orderly.{access_done, access_out}
 use Rattle.serve.proofs.serving.access_at.Goals as goal
 

@@ -1,7 +1,6 @@
 -- The place is beyond the end, or there is no room; else the tree and the chain are changed. Assumes nothing.
 use Prim.Native.Nat.{ℕ, ◌≤◌}
 use native.Mathlib.Omega.{arith}
-use borrow.Author.Rules.{rules}
 use borrow.Author.Tests.{not-true, not-false}
 use mathlib.Core.Bool.{true, false}
 use mathlib.Core.Path.{◌≡◌, sym, ◌∙◌}
@@ -26,8 +25,8 @@ pub insert-after-requires : goal.insert-after-requires
 insert-after-requires c =
     let within : let a = c.args in a.index ≤ a.held.length = omega (arith, c.if-held-index.false) in
     let roomy : (end : ℕ) (p : Pool) → let a = c.args in
-        ToServe a.nodes.now end a.held a.may p
-        → full a.may a.index p ≡ false = λ end p s. not-true _ (sym (c.room.ensures (to_ask s _ (within))) ∙ c.if-room.true) in
+    ToServe a.nodes.now end a.held a.may p
+    → full a.may a.index p ≡ false = λ end p s. not-true _ (sym (c.room.ensures (to_ask s _ (within))) ∙ c.if-room.true) in
     let s = c.requires in
     to_insert s.2 _ (within) (roomy s.0 s.1 s.2)
 
@@ -39,8 +38,8 @@ pub returns-then-room : goal.returns-then-room
 returns-then-room c =
     let within : let a = c.args in a.index ≤ a.held.length = omega (arith, c.if-held-index.false) in
     let roomy : (end : ℕ) (p : Pool) → let a = c.args in
-        ToServe a.nodes.now end a.held a.may p
-        → full a.may a.index p ≡ false = λ end p s. not-true _ (sym (c.room.ensures (to_ask s _ (within))) ∙ c.if-room.true) in
+    ToServe a.nodes.now end a.held a.may p
+    → full a.may a.index p ≡ false = λ end p s. not-true _ (sym (c.room.ensures (to_ask s _ (within))) ∙ c.if-room.true) in
     λ end p s.
     let inside = within in
     let room = roomy end p s in
@@ -50,8 +49,8 @@ pub returns : goal.returns
 returns c =
     let within : let a = c.args in a.index ≤ a.held.length = omega (arith, c.if-held-index.false) in
     let none_left : (end : ℕ) (p : Pool) → let a = c.args in
-        ToServe a.nodes.now end a.held a.may p
-        → full a.may a.index p ≡ true = λ end p s. not-false _ (sym (c.room.ensures (to_ask s _ (within))) ∙ c.if-room.false) in
+    ToServe a.nodes.now end a.held a.may p
+    → full a.may a.index p ≡ true = λ end p s. not-false _ (sym (c.room.ensures (to_ask s _ (within))) ∙ c.if-room.false) in
     λ end p s.
     let a = c.args in
     let full = insert_full a.may a.index a.bit p (omega (arith, s.total, within))

@@ -1,6 +1,5 @@
 -- The place is beyond the marks; else the tree and the chain are changed. Assumes nothing.
 use native.Mathlib.Omega.{arith}
-use borrow.Author.Rules.{rules}
 use Rattle.serve.proofs.Edits.{removed, still, to_remove}
 use Rattle.serve.proofs.Orderly.{remove_out}
 use Rattle.serve.proofs.serving.remove_at.Goals as goal

@@ -1,6 +1,5 @@
 -- A mark goes from the other child to the short one, and the fork counts it where it is now. Assumes nothing.
 use mathlib.Core.List.{[], ◌∷◌}
-use borrow.Author.Rules.{rules}
 use Rattle.shrink.proofs.Joining.{borrow_left_asks, borrow_left_puts, borrow_left_fits, borrow_left_done}
 use Rattle.shrink.proofs.Joining.{borrow_right_asks, borrow_right_puts, borrow_right_fits, borrow_right_counted, borrow_right_done}
 use Rattle.shrink.proofs.mending.borrow.Goals as goal

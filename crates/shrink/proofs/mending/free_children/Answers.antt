@@ -1,6 +1,5 @@
 -- Two stores, of which the second names the number of the first. Assumes nothing.
 use mathlib.Core.Path.{refl}
-use borrow.Author.Rules.{rules}
 use Rattle.shrink.proofs.mending.free_children.Goals as goal
 
 pub returns : goal.returns

@@ -1,6 +1,5 @@
 -- A leaf of one mark is that mark and zeros. Assumes nothing.
 use mathlib.Core.Path.{sym}
-use borrow.Author.Rules.{rules}
 use Rattle.shrink.proofs.Joining.{lone_leaf}
 use Rattle.shrink.proofs.mending.lone.Goals as goal
 

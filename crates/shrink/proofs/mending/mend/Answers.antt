@@ -2,7 +2,6 @@
 use Prim.Native.Nat.{ℕ, ◌≤◌, ◌<◌}
 use native.Mathlib.Omega.{arith}
 use mathlib.Core.Path.{◌≡◌}
-use borrow.Author.Rules.{rules}
 use lib.ListN.{length}
 use Rattle.shrink.specs.Mending.{ToMend, next_leaf}
 use Rattle.shrink.proofs.Outcomes.{fork_read, to_measure, to_merge, to_borrow, mend_joined, mend_lent}

@@ -1,5 +1,4 @@
 -- The marks of the short leaf are put to the other child, and that child's top is copied to n. Assumes nothing.
-use borrow.Author.Rules.{rules}
 use Rattle.model.specs.Tree.{marks}
 use Rattle.shrink.proofs.Joining.{merge_left_asks, merge_left_fits, merge_right_asks, merge_done, merge_moves, short_read_leaf}
 use Rattle.shrink.proofs.mending.merge.Goals as goal

@@ -1,5 +1,4 @@
 -- The mark counts as what its word holds. Assumes nothing.
-use borrow.Author.Rules.{rules}
 use Rattle.descent.proofs.Digits.{byte_digit, byte_fits}
 use Rattle.shrink.proofs.mending.more_left.Goals as goal
 

@@ -1,6 +1,5 @@
 -- The fork at n is the one that loses the mark. Assumes nothing.
 use native.Mathlib.Omega.{arith}
-use borrow.Author.Rules.{rules}
 use mathlib.Core.Bool.{◌&&◌}
 use mathlib.Core.Path.{ap}
 use Rattle.pool.specs.Node.{fork_in}

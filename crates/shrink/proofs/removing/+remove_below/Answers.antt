@@ -1,9 +1,7 @@
 -- A leaf loses the mark; a fork's child does, the fork counts it no more, and then it is mended, left as it is, or
 -- balanced. Assumes nothing.
-use Prim.Native.Nat.{ℕ, ◌<◌}
 use native.Mathlib.Omega.{arith}
 use mathlib.Core.Path.{◌≡◌, sym, ap, ◌∙◌}
-use borrow.Author.Rules.{rules}
 use mir.Syntax.{w64}
 use mir.Val.{to_z}
 use Rattle.pool.specs.Node.{as_node, node_at}
@@ -31,14 +29,14 @@ pub overflow_sub-below : goal.overflow_sub-below
 overflow_sub-below t c =
     let read : node_at c.args.nodes.now c.args.n ≡ Node.Fork c.in-Fork.fork = sym c.leaf_or_fork.ensures ∙ ap as_node c.in-Fork.is in
     let step : let a = c.args in
-        Stepped a.nodes.now a.n a.length a.index c.in-Fork.fork c.toward-step.result = record { read = read; toward = record { to_left = c.toward-step.ensures.value; to_right = c.toward-step.ensures.value_2 } } in
+    Stepped a.nodes.now a.n a.length a.index c.in-Fork.fork c.toward-step.result = record { read = read; toward = record { to_left = c.toward-step.ensures.value; to_right = c.toward-step.ensures.value_2 } } in
     fork_level c.requires.at.site.rooted (step).read
 
 pub remove_below-change-requires : goal.remove_below-change-requires
 remove_below-change-requires t c =
     let read : node_at c.args.nodes.now c.args.n ≡ Node.Fork c.in-Fork.fork = sym c.leaf_or_fork.ensures ∙ ap as_node c.in-Fork.is in
     let step : let a = c.args in
-        Stepped a.nodes.now a.n a.length a.index c.in-Fork.fork c.toward-step.result = record { read = read; toward = record { to_left = c.toward-step.ensures.value; to_right = c.toward-step.ensures.value_2 } } in
+    Stepped a.nodes.now a.n a.length a.index c.in-Fork.fork c.toward-step.result = record { read = read; toward = record { to_left = c.toward-step.ensures.value; to_right = c.toward-step.ensures.value_2 } } in
     let pre = c.requires in
     (omega (arith, c.decreases, fork_level pre.at.site.rooted (step).read), to_child (step) pre)
 
@@ -46,10 +44,10 @@ pub uncount-requires : goal.uncount-requires
 uncount-requires t c =
     let read : node_at c.args.nodes.now c.args.n ≡ Node.Fork c.in-Fork.fork = sym c.leaf_or_fork.ensures ∙ ap as_node c.in-Fork.is in
     let step : let a = c.args in
-        Stepped a.nodes.now a.n a.length a.index c.in-Fork.fork c.toward-step.result = record { read = read; toward = record { to_left = c.toward-step.ensures.value; to_right = c.toward-step.ensures.value_2 } } in
+    Stepped a.nodes.now a.n a.length a.index c.in-Fork.fork c.toward-step.result = record { read = read; toward = record { to_left = c.toward-step.ensures.value; to_right = c.toward-step.ensures.value_2 } } in
     let done : (b : (ToRemove c.args.nodes.now c.args.n c.args.levels c.args.head.now c.args.length c.args.index)) → let call = c.remove_below-change in
-        Gone (to_child (step) b) call.new.nodes call.new.head (held call.result) call.new.bit = λ b. gone_held c.remove_below-change.result (record { sfits = c.remove_below-change.type_inv })
-        (c.remove_below-change.ensures (to_child (step) b)) in
+    Gone (to_child (step) b) call.new.nodes call.new.head (held call.result) call.new.bit = λ b. gone_held c.remove_below-change.result (record { sfits = c.remove_below-change.type_inv })
+    (c.remove_below-change.ensures (to_child (step) b)) in
     let b = c.requires in
     to_uncount (step) b (done b)
 
@@ -62,10 +60,10 @@ pub mend-requires : goal.mend-requires
 mend-requires t c =
     let read : node_at c.args.nodes.now c.args.n ≡ Node.Fork c.in-Fork.fork = sym c.leaf_or_fork.ensures ∙ ap as_node c.in-Fork.is in
     let step : let a = c.args in
-        Stepped a.nodes.now a.n a.length a.index c.in-Fork.fork c.toward-step.result = record { read = read; toward = record { to_left = c.toward-step.ensures.value; to_right = c.toward-step.ensures.value_2 } } in
+    Stepped a.nodes.now a.n a.length a.index c.in-Fork.fork c.toward-step.result = record { read = read; toward = record { to_left = c.toward-step.ensures.value; to_right = c.toward-step.ensures.value_2 } } in
     let done : (b : (ToRemove c.args.nodes.now c.args.n c.args.levels c.args.head.now c.args.length c.args.index)) → let call = c.remove_below-change in
-        Gone (to_child (step) b) call.new.nodes call.new.head (held call.result) call.new.bit = λ b. gone_held c.remove_below-change.result (record { sfits = c.remove_below-change.type_inv })
-        (c.remove_below-change.ensures (to_child (step) b)) in
+    Gone (to_child (step) b) call.new.nodes call.new.head (held call.result) call.new.bit = λ b. gone_held c.remove_below-change.result (record { sfits = c.remove_below-change.type_inv })
+    (c.remove_below-change.ensures (to_child (step) b)) in
     let b = c.requires in
     to_mend (step) b (done b) c.uncount.ensures c.if-step-le-LEAF_LEAST.true
 
@@ -73,10 +71,10 @@ pub returns-then-step-le-LEAF_LEAST : goal.returns-then-step-le-LEAF_LEAST
 returns-then-step-le-LEAF_LEAST t c =
     let read : node_at c.args.nodes.now c.args.n ≡ Node.Fork c.in-Fork.fork = sym c.leaf_or_fork.ensures ∙ ap as_node c.in-Fork.is in
     let step : let a = c.args in
-        Stepped a.nodes.now a.n a.length a.index c.in-Fork.fork c.toward-step.result = record { read = read; toward = record { to_left = c.toward-step.ensures.value; to_right = c.toward-step.ensures.value_2 } } in
+    Stepped a.nodes.now a.n a.length a.index c.in-Fork.fork c.toward-step.result = record { read = read; toward = record { to_left = c.toward-step.ensures.value; to_right = c.toward-step.ensures.value_2 } } in
     let done : (b : (ToRemove c.args.nodes.now c.args.n c.args.levels c.args.head.now c.args.length c.args.index)) → let call = c.remove_below-change in
-        Gone (to_child (step) b) call.new.nodes call.new.head (held call.result) call.new.bit = λ b. gone_held c.remove_below-change.result (record { sfits = c.remove_below-change.type_inv })
-        (c.remove_below-change.ensures (to_child (step) b)) in
+    Gone (to_child (step) b) call.new.nodes call.new.head (held call.result) call.new.bit = λ b. gone_held c.remove_below-change.result (record { sfits = c.remove_below-change.type_inv })
+    (c.remove_below-change.ensures (to_child (step) b)) in
     λ b.
     let m = c.mend in
     let way = step in
@@ -89,10 +87,10 @@ pub returns-then-change-eq0 : goal.returns-then-change-eq0
 returns-then-change-eq0 t c =
     let read : node_at c.args.nodes.now c.args.n ≡ Node.Fork c.in-Fork.fork = sym c.leaf_or_fork.ensures ∙ ap as_node c.in-Fork.is in
     let step : let a = c.args in
-        Stepped a.nodes.now a.n a.length a.index c.in-Fork.fork c.toward-step.result = record { read = read; toward = record { to_left = c.toward-step.ensures.value; to_right = c.toward-step.ensures.value_2 } } in
+    Stepped a.nodes.now a.n a.length a.index c.in-Fork.fork c.toward-step.result = record { read = read; toward = record { to_left = c.toward-step.ensures.value; to_right = c.toward-step.ensures.value_2 } } in
     let done : (b : (ToRemove c.args.nodes.now c.args.n c.args.levels c.args.head.now c.args.length c.args.index)) → let call = c.remove_below-change in
-        Gone (to_child (step) b) call.new.nodes call.new.head (held call.result) call.new.bit = λ b. gone_held c.remove_below-change.result (record { sfits = c.remove_below-change.type_inv })
-        (c.remove_below-change.ensures (to_child (step) b)) in
+    Gone (to_child (step) b) call.new.nodes call.new.head (held call.result) call.new.bit = λ b. gone_held c.remove_below-change.result (record { sfits = c.remove_below-change.type_inv })
+    (c.remove_below-change.ensures (to_child (step) b)) in
     λ b.
     remove_level (step) b (done b) c.uncount.ensures c.if-step-le-LEAF_LEAST.false (ap (to_z w64) c.if-change-eq0.true)
 
@@ -100,10 +98,10 @@ pub child_changed-requires : goal.child_changed-requires
 child_changed-requires t c =
     let read : node_at c.args.nodes.now c.args.n ≡ Node.Fork c.in-Fork.fork = sym c.leaf_or_fork.ensures ∙ ap as_node c.in-Fork.is in
     let step : let a = c.args in
-        Stepped a.nodes.now a.n a.length a.index c.in-Fork.fork c.toward-step.result = record { read = read; toward = record { to_left = c.toward-step.ensures.value; to_right = c.toward-step.ensures.value_2 } } in
+    Stepped a.nodes.now a.n a.length a.index c.in-Fork.fork c.toward-step.result = record { read = read; toward = record { to_left = c.toward-step.ensures.value; to_right = c.toward-step.ensures.value_2 } } in
     let done : (b : (ToRemove c.args.nodes.now c.args.n c.args.levels c.args.head.now c.args.length c.args.index)) → let call = c.remove_below-change in
-        Gone (to_child (step) b) call.new.nodes call.new.head (held call.result) call.new.bit = λ b. gone_held c.remove_below-change.result (record { sfits = c.remove_below-change.type_inv })
-        (c.remove_below-change.ensures (to_child (step) b)) in
+    Gone (to_child (step) b) call.new.nodes call.new.head (held call.result) call.new.bit = λ b. gone_held c.remove_below-change.result (record { sfits = c.remove_below-change.type_inv })
+    (c.remove_below-change.ensures (to_child (step) b)) in
     let b = c.requires in
     remove_stale (step) b (done b) c.uncount.ensures c.if-step-le-LEAF_LEAST.false
 
@@ -116,10 +114,10 @@ pub returns-else-change-eq0 : goal.returns-else-change-eq0
 returns-else-change-eq0 t c =
     let read : node_at c.args.nodes.now c.args.n ≡ Node.Fork c.in-Fork.fork = sym c.leaf_or_fork.ensures ∙ ap as_node c.in-Fork.is in
     let step : let a = c.args in
-        Stepped a.nodes.now a.n a.length a.index c.in-Fork.fork c.toward-step.result = record { read = read; toward = record { to_left = c.toward-step.ensures.value; to_right = c.toward-step.ensures.value_2 } } in
+    Stepped a.nodes.now a.n a.length a.index c.in-Fork.fork c.toward-step.result = record { read = read; toward = record { to_left = c.toward-step.ensures.value; to_right = c.toward-step.ensures.value_2 } } in
     let done : (b : (ToRemove c.args.nodes.now c.args.n c.args.levels c.args.head.now c.args.length c.args.index)) → let call = c.remove_below-change in
-        Gone (to_child (step) b) call.new.nodes call.new.head (held call.result) call.new.bit = λ b. gone_held c.remove_below-change.result (record { sfits = c.remove_below-change.type_inv })
-        (c.remove_below-change.ensures (to_child (step) b)) in
+    Gone (to_child (step) b) call.new.nodes call.new.head (held call.result) call.new.bit = λ b. gone_held c.remove_below-change.result (record { sfits = c.remove_below-change.type_inv })
+    (c.remove_below-change.ensures (to_child (step) b)) in
     λ b.
     let d = c.child_changed in
     gone_held d.result (record { sfits = d.type_inv })

@@ -1,5 +1,4 @@
 -- The head of the chain has moved exactly where two numbers were freed. Assumes nothing.
-use borrow.Author.Rules.{rules}
 use Rattle.shrink.proofs.Chains.{one_removed, two_freed}
 use Rattle.shrink.proofs.removing.remove.Goals as goal
 

@@ -1,7 +1,6 @@
 -- The place counts the marks before its leaf, and the test tells whether it is one of a mark. Assumes nothing.
 use Prim.Native.Nat.{◌+◌}
 use native.Mathlib.Omega.{arith}
-use borrow.Author.Rules.{rules}
 use borrow.Author.Tests.{lt-ltb, le-ltb}
 use Rattle.tree.specs.Query.{found_at}
 use Rattle.tree.proofs.query.placed.Goals as goal

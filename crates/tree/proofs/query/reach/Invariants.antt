@@ -1,11 +1,7 @@
 -- What the loop keeps, and the measure that falls.
-use Prim.Native.Nat.{◌≤◌}
-use native.Mathlib.Omega.{arith}
-use borrow.Author.Rules.{rules}
-use mathlib.Core.Bool.{true}
 use Rattle.tree.specs.TreeAt.{TreeAt}
-use Rattle.tree.proofs.Down.{On, OnFork, on_node, on_leaf, on_level, on_fork, told_leaf, told_fork}
-use Rattle.tree.proofs.Questions.{Reaching, reach_begin, reach_here, reach_step, reach_total, rank_most}
+use Rattle.tree.proofs.Down.{On}
+use Rattle.tree.proofs.Questions.{Reaching}
 use Rattle.tree.proofs.query.reach.Given as goal
 
 abbrev pub invariant-loop-leaf : goal.invariant-loop-leaf

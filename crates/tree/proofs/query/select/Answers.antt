@@ -7,7 +7,7 @@ use mathlib.Core.Path.{◌∙◌}
 use Rattle.model.proofs.Depth.{size_bound}
 use Rattle.bits.specs.Leaf.{bits_of}
 use Rattle.tree.specs.TreeAt.{TreeAt, tree_at}
-use Rattle.tree.proofs.Down.{On, OnLeaf, OnFork, picked_most, picked_within, on_node, on_leaf, on_level, on_fork, told_leaf, told_fork}
+use Rattle.tree.proofs.Down.{OnLeaf, OnFork, picked_most, picked_within, on_node, on_leaf, on_level, on_fork, told_leaf, told_fork}
 use Rattle.tree.proofs.Questions.{Selecting, select_begin, select_near, select_here, select_step, select_strikes, select_before}
 use Rattle.tree.proofs.query.select.Goals as goal
 
@@ -28,8 +28,8 @@ pub placed-requires : goal.placed-requires
 unfolding bits_of
 placed-requires c =
     let at_leaf : let a = c.args in let l = c.loop-leaf in
-        (s : TreeAt a.nodes.now a.root 12 a.length)
-        → OnLeaf a.nodes.now l.n l.levels (Selecting s.tree a.bit a.k l.skip l.before) c.in-Leaf.leaf = λ s. told_leaf (c.loop-leaf.invariant s) c.leaf_or_fork.ensures c.in-Leaf.is in
+    (s : TreeAt a.nodes.now a.root 12 a.length)
+    → OnLeaf a.nodes.now l.n l.levels (Selecting s.tree a.bit a.k l.skip l.before) c.in-Leaf.leaf = λ s. told_leaf (c.loop-leaf.invariant s) c.leaf_or_fork.ensures c.in-Leaf.is in
     let asked : TreeAt c.args.nodes.now c.args.root 12 c.args.length = tree_at c.requires.0 c.requires.1 c.requires.2 in
     let s = asked in
     on_leaf (at_leaf s)
@@ -39,8 +39,8 @@ pub returns-in-Leaf : goal.returns-in-Leaf
 unfolding bits_of
 returns-in-Leaf c =
     let at_leaf : let a = c.args in let l = c.loop-leaf in
-        (s : TreeAt a.nodes.now a.root 12 a.length)
-        → OnLeaf a.nodes.now l.n l.levels (Selecting s.tree a.bit a.k l.skip l.before) c.in-Leaf.leaf = λ s. told_leaf (c.loop-leaf.invariant s) c.leaf_or_fork.ensures c.in-Leaf.is in
+    (s : TreeAt a.nodes.now a.root 12 a.length)
+    → OnLeaf a.nodes.now l.n l.levels (Selecting s.tree a.bit a.k l.skip l.before) c.in-Leaf.leaf = λ s. told_leaf (c.loop-leaf.invariant s) c.leaf_or_fork.ensures c.in-Leaf.is in
     λ t h e.
     c.placed.ensures
     ∙ on_leaf (at_leaf (tree_at t h e)) (λ m xs s k q. select_here m xs _ s k q _ c.select128.ensures _ e)
@@ -49,23 +49,23 @@ pub overflow_add-before : goal.overflow_add-before
 overflow_add-before c =
     let asked : TreeAt c.args.nodes.now c.args.root 12 c.args.length = tree_at c.requires.0 c.requires.1 c.requires.2 in
     let at_fork : let a = c.args in let l = c.loop-leaf in
-        (s : TreeAt a.nodes.now a.root 12 a.length)
-        → OnFork a.nodes.now l.n l.levels (Selecting s.tree a.bit a.k l.skip l.before) c.in-Fork.fork = λ s. told_fork (c.loop-leaf.invariant s) c.leaf_or_fork.ensures c.in-Fork.is in
+    (s : TreeAt a.nodes.now a.root 12 a.length)
+    → OnFork a.nodes.now l.n l.levels (Selecting s.tree a.bit a.k l.skip l.before) c.in-Fork.fork = λ s. told_fork (c.loop-leaf.invariant s) c.leaf_or_fork.ensures c.in-Fork.is in
     let says : let l = c.loop-leaf in let f = c.in-Fork.fork in
-        (1 ≤ l.levels) × (f.left_ones ≤ f.left_total) × (l.before + f.left_total < 2 ^ 64) = let s = asked in
-        let here = at_fork s in
-        let within = on_fork here (λ m u v e q. select_before m u v _ e q) in (
-          on_level here,
-          on_fork here (λ m u v e q. select_strikes m u v _ e q),
-          omega (arith, within, size_bound 0 s.tree 12 s.rooted.sized s.rooted.deep),
-        ) in
+    (1 ≤ l.levels) × (f.left_ones ≤ f.left_total) × (l.before + f.left_total < 2 ^ 64) = let s = asked in
+    let here = at_fork s in
+    let within = on_fork here (λ m u v e q. select_before m u v _ e q) in (
+      on_level here,
+      on_fork here (λ m u v e q. select_strikes m u v _ e q),
+      omega (arith, within, size_bound 0 s.tree 12 s.rooted.sized s.rooted.deep),
+    ) in
     omega (arith, says, picked_most c.either-before.ensures)
 
 pub loop-leaf-preserved : goal.loop-leaf-preserved
 loop-leaf-preserved c =
     let at_fork : let a = c.args in let l = c.loop-leaf in
-        (s : TreeAt a.nodes.now a.root 12 a.length)
-        → OnFork a.nodes.now l.n l.levels (Selecting s.tree a.bit a.k l.skip l.before) c.in-Fork.fork = λ s. told_fork (c.loop-leaf.invariant s) c.leaf_or_fork.ensures c.in-Fork.is in
+    (s : TreeAt a.nodes.now a.root 12 a.length)
+    → OnFork a.nodes.now l.n l.levels (Selecting s.tree a.bit a.k l.skip l.before) c.in-Fork.fork = λ s. told_fork (c.loop-leaf.invariant s) c.leaf_or_fork.ensures c.in-Fork.is in
     λ s.
     select_step (at_fork s) c.wanted-here.ensures c.either-n.ensures c.either-before.ensures
     c.either-skip.ensures (λ t. search rules) (λ t. search rules)
@@ -77,16 +77,16 @@ pub loop-leaf-smaller : goal.loop-leaf-smaller
 loop-leaf-smaller c =
     let asked : TreeAt c.args.nodes.now c.args.root 12 c.args.length = tree_at c.requires.0 c.requires.1 c.requires.2 in
     let at_fork : let a = c.args in let l = c.loop-leaf in
-        (s : TreeAt a.nodes.now a.root 12 a.length)
-        → OnFork a.nodes.now l.n l.levels (Selecting s.tree a.bit a.k l.skip l.before) c.in-Fork.fork = λ s. told_fork (c.loop-leaf.invariant s) c.leaf_or_fork.ensures c.in-Fork.is in
+    (s : TreeAt a.nodes.now a.root 12 a.length)
+    → OnFork a.nodes.now l.n l.levels (Selecting s.tree a.bit a.k l.skip l.before) c.in-Fork.fork = λ s. told_fork (c.loop-leaf.invariant s) c.leaf_or_fork.ensures c.in-Fork.is in
     let says : let l = c.loop-leaf in let f = c.in-Fork.fork in
-        (1 ≤ l.levels) × (f.left_ones ≤ f.left_total) × (l.before + f.left_total < 2 ^ 64) = let s = asked in
-        let here = at_fork s in
-        let within = on_fork here (λ m u v e q. select_before m u v _ e q) in (
-          on_level here,
-          on_fork here (λ m u v e q. select_strikes m u v _ e q),
-          omega (arith, within, size_bound 0 s.tree 12 s.rooted.sized s.rooted.deep),
-        ) in
+    (1 ≤ l.levels) × (f.left_ones ≤ f.left_total) × (l.before + f.left_total < 2 ^ 64) = let s = asked in
+    let here = at_fork s in
+    let within = on_fork here (λ m u v e q. select_before m u v _ e q) in (
+      on_level here,
+      on_fork here (λ m u v e q. select_strikes m u v _ e q),
+      omega (arith, within, size_bound 0 s.tree 12 s.rooted.sized s.rooted.deep),
+    ) in
     omega (arith, says)
 
 pub overflow_sub-skip : goal.overflow_sub-skip
@@ -96,30 +96,30 @@ pub overflow_sub-levels : goal.overflow_sub-levels
 overflow_sub-levels c =
     let asked : TreeAt c.args.nodes.now c.args.root 12 c.args.length = tree_at c.requires.0 c.requires.1 c.requires.2 in
     let at_fork : let a = c.args in let l = c.loop-leaf in
-        (s : TreeAt a.nodes.now a.root 12 a.length)
-        → OnFork a.nodes.now l.n l.levels (Selecting s.tree a.bit a.k l.skip l.before) c.in-Fork.fork = λ s. told_fork (c.loop-leaf.invariant s) c.leaf_or_fork.ensures c.in-Fork.is in
+    (s : TreeAt a.nodes.now a.root 12 a.length)
+    → OnFork a.nodes.now l.n l.levels (Selecting s.tree a.bit a.k l.skip l.before) c.in-Fork.fork = λ s. told_fork (c.loop-leaf.invariant s) c.leaf_or_fork.ensures c.in-Fork.is in
     let says : let l = c.loop-leaf in let f = c.in-Fork.fork in
-        (1 ≤ l.levels) × (f.left_ones ≤ f.left_total) × (l.before + f.left_total < 2 ^ 64) = let s = asked in
-        let here = at_fork s in
-        let within = on_fork here (λ m u v e q. select_before m u v _ e q) in (
-          on_level here,
-          on_fork here (λ m u v e q. select_strikes m u v _ e q),
-          omega (arith, within, size_bound 0 s.tree 12 s.rooted.sized s.rooted.deep),
-        ) in
+    (1 ≤ l.levels) × (f.left_ones ≤ f.left_total) × (l.before + f.left_total < 2 ^ 64) = let s = asked in
+    let here = at_fork s in
+    let within = on_fork here (λ m u v e q. select_before m u v _ e q) in (
+      on_level here,
+      on_fork here (λ m u v e q. select_strikes m u v _ e q),
+      omega (arith, within, size_bound 0 s.tree 12 s.rooted.sized s.rooted.deep),
+    ) in
     (says).0
 
 pub wanted-here-requires : goal.wanted-here-requires
 wanted-here-requires c =
     let asked : TreeAt c.args.nodes.now c.args.root 12 c.args.length = tree_at c.requires.0 c.requires.1 c.requires.2 in
     let at_fork : let a = c.args in let l = c.loop-leaf in
-        (s : TreeAt a.nodes.now a.root 12 a.length)
-        → OnFork a.nodes.now l.n l.levels (Selecting s.tree a.bit a.k l.skip l.before) c.in-Fork.fork = λ s. told_fork (c.loop-leaf.invariant s) c.leaf_or_fork.ensures c.in-Fork.is in
+    (s : TreeAt a.nodes.now a.root 12 a.length)
+    → OnFork a.nodes.now l.n l.levels (Selecting s.tree a.bit a.k l.skip l.before) c.in-Fork.fork = λ s. told_fork (c.loop-leaf.invariant s) c.leaf_or_fork.ensures c.in-Fork.is in
     let says : let l = c.loop-leaf in let f = c.in-Fork.fork in
-        (1 ≤ l.levels) × (f.left_ones ≤ f.left_total) × (l.before + f.left_total < 2 ^ 64) = let s = asked in
-        let here = at_fork s in
-        let within = on_fork here (λ m u v e q. select_before m u v _ e q) in (
-          on_level here,
-          on_fork here (λ m u v e q. select_strikes m u v _ e q),
-          omega (arith, within, size_bound 0 s.tree 12 s.rooted.sized s.rooted.deep),
-        ) in
+    (1 ≤ l.levels) × (f.left_ones ≤ f.left_total) × (l.before + f.left_total < 2 ^ 64) = let s = asked in
+    let here = at_fork s in
+    let within = on_fork here (λ m u v e q. select_before m u v _ e q) in (
+      on_level here,
+      on_fork here (λ m u v e q. select_strikes m u v _ e q),
+      omega (arith, within, size_bound 0 s.tree 12 s.rooted.sized s.rooted.deep),
+    ) in
     (says).1

@@ -1,5 +1,4 @@
 -- Quiets are what the strikes leave. Assumes nothing.
-use borrow.Author.Rules.{rules}
 use Rattle.tree.proofs.query.wanted.Goals as goal
 
 pub returns : goal.returns

@@ -1,13 +1,11 @@
 -- A leaf's marks are added; a fork's are its left child's and then its right child's. Assumes nothing.
 use mathlib.Core.Path.{sym, ◌∙◌}
 use native.Mathlib.Omega.{arith}
-use borrow.Author.Rules.{rules}
 use Rattle.model.specs.Tree.{marks}
 use Rattle.model.proofs.Content.{size_marks}
 use Rattle.tree.specs.TreeAt.{TreeAt}
 use Rattle.tree.proofs.Down.{Parts, stands_node, stands_leaf, stands_fork}
 use Rattle.values.proofs.Output.{adds_both}
-use Prim.Native.Nat.{ℕ, ◌<◌}
 use Rattle.values.proofs.writing.+add_marks.Goals as goal
 
 pub leaf_or_fork-requires : goal.leaf_or_fork-requires
@@ -22,17 +20,17 @@ add_leaf-requires t c =
 pub overflow_sub-below : goal.overflow_sub-below
 overflow_sub-below t c =
     let parts : let a = c.args in
-        (s : TreeAt a.nodes.now a.n a.levels a.length) → Parts a.nodes.now a.levels a.length c.in-Fork.fork s.tree = λ s. stands_fork s c.leaf_or_fork.ensures c.in-Fork.is in
+    (s : TreeAt a.nodes.now a.n a.levels a.length) → Parts a.nodes.now a.levels a.length c.in-Fork.fork s.tree = λ s. stands_fork s c.leaf_or_fork.ensures c.in-Fork.is in
     let children :
-        Parts c.args.nodes.now c.args.levels c.args.length c.in-Fork.fork c.requires.0.tree = parts c.requires.0 in
+    Parts c.args.nodes.now c.args.levels c.args.length c.in-Fork.fork c.requires.0.tree = parts c.requires.0 in
     (children).level
 
 pub add_marks-first-requires : goal.add_marks-first-requires
 add_marks-first-requires t c =
     let parts : let a = c.args in
-        (s : TreeAt a.nodes.now a.n a.levels a.length) → Parts a.nodes.now a.levels a.length c.in-Fork.fork s.tree = λ s. stands_fork s c.leaf_or_fork.ensures c.in-Fork.is in
+    (s : TreeAt a.nodes.now a.n a.levels a.length) → Parts a.nodes.now a.levels a.length c.in-Fork.fork s.tree = λ s. stands_fork s c.leaf_or_fork.ensures c.in-Fork.is in
     let children :
-        Parts c.args.nodes.now c.args.levels c.args.length c.in-Fork.fork c.requires.0.tree = parts c.requires.0 in
+    Parts c.args.nodes.now c.args.levels c.args.length c.in-Fork.fork c.requires.0.tree = parts c.requires.0 in
     let p = c.requires in
     let q = children in
     (omega (arith, c.decreases, q.level), (q.left, p.1, omega (arith, p.2, q.within)))
@@ -40,17 +38,17 @@ add_marks-first-requires t c =
 pub overflow_sub-length : goal.overflow_sub-length
 overflow_sub-length t c =
     let parts : let a = c.args in
-        (s : TreeAt a.nodes.now a.n a.levels a.length) → Parts a.nodes.now a.levels a.length c.in-Fork.fork s.tree = λ s. stands_fork s c.leaf_or_fork.ensures c.in-Fork.is in
+    (s : TreeAt a.nodes.now a.n a.levels a.length) → Parts a.nodes.now a.levels a.length c.in-Fork.fork s.tree = λ s. stands_fork s c.leaf_or_fork.ensures c.in-Fork.is in
     let children :
-        Parts c.args.nodes.now c.args.levels c.args.length c.in-Fork.fork c.requires.0.tree = parts c.requires.0 in
+    Parts c.args.nodes.now c.args.levels c.args.length c.in-Fork.fork c.requires.0.tree = parts c.requires.0 in
     (children).within
 
 pub add_marks-requires : goal.add_marks-requires
 add_marks-requires t c =
     let parts : let a = c.args in
-        (s : TreeAt a.nodes.now a.n a.levels a.length) → Parts a.nodes.now a.levels a.length c.in-Fork.fork s.tree = λ s. stands_fork s c.leaf_or_fork.ensures c.in-Fork.is in
+    (s : TreeAt a.nodes.now a.n a.levels a.length) → Parts a.nodes.now a.levels a.length c.in-Fork.fork s.tree = λ s. stands_fork s c.leaf_or_fork.ensures c.in-Fork.is in
     let children :
-        Parts c.args.nodes.now c.args.levels c.args.length c.in-Fork.fork c.requires.0.tree = parts c.requires.0 in
+    Parts c.args.nodes.now c.args.levels c.args.length c.in-Fork.fork c.requires.0.tree = parts c.requires.0 in
     let p = c.requires in
     let q = children in
     let moved = c.add_marks-first.ensures.moved in
@@ -58,18 +56,24 @@ add_marks-requires t c =
 
 pub returns-in-Leaf : goal.returns-in-Leaf
 returns-in-Leaf t c =
-    record { moved = c.add_leaf.ensures.moved; adds = λ s.
+    record {
+      moved = c.add_leaf.ensures.moved;
+      adds = λ s.
           let lone = stands_leaf s c.leaf_or_fork.ensures c.in-Leaf.is in
-          c.add_leaf.ensures.adds (marks s.tree) lone.count lone.marks_are }
+          c.add_leaf.ensures.adds (marks s.tree) lone.count lone.marks_are;
+    }
 
 pub returns-in-Fork : goal.returns-in-Fork
 returns-in-Fork t c =
     let parts : let a = c.args in
-        (s : TreeAt a.nodes.now a.n a.levels a.length) → Parts a.nodes.now a.levels a.length c.in-Fork.fork s.tree = λ s. stands_fork s c.leaf_or_fork.ensures c.in-Fork.is in
+    (s : TreeAt a.nodes.now a.n a.levels a.length) → Parts a.nodes.now a.levels a.length c.in-Fork.fork s.tree = λ s. stands_fork s c.leaf_or_fork.ensures c.in-Fork.is in
     let children :
-        Parts c.args.nodes.now c.args.levels c.args.length c.in-Fork.fork c.requires.0.tree = parts c.requires.0 in
+    Parts c.args.nodes.now c.args.levels c.args.length c.in-Fork.fork c.requires.0.tree = parts c.requires.0 in
     let a = c.add_marks-first.ensures in
-    let b = c.add_marks.ensures in record { moved = record { count = omega (arith, a.moved.count, b.moved.count, (children).within); part = b.moved.part }; adds = λ c.
+    let b = c.add_marks.ensures in record {
+      moved = record { count = omega (arith, a.moved.count, b.moved.count, (children).within); part = b.moved.part };
+      adds = λ c.
           let q = parts c in
           let size = sym (size_marks q.left.tree) ∙ q.left.total in
-          rw q.both (adds_both a.moved size (a.adds q.left) (b.adds q.right)) }
+          rw q.both (adds_both a.moved size (a.adds q.left) (b.adds q.right));
+    }

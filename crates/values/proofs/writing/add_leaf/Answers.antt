@@ -1,7 +1,6 @@
 -- The low word's marks are added, and then the high word's. Assumes nothing.
 use native.Mathlib.Omega.{arith}
 use mathlib.Core.Path.{◌∙◌}
-use borrow.Author.Rules.{rules}
 use lib.ListN.{take, drop, length-drop, take-append-drop}
 use lib.Seq.{length-take-le}
 use Rattle.values.proofs.Output.{adds_both, low_few, low_first, high_rest}
@@ -17,6 +16,9 @@ returns c =
     let many = c.if-length-lt-WORD_BITS.false in
     let p = c.requires in
     let first = c.add_word-first.ensures in
-    let second = c.add_word-2.ensures in record { moved = record { count = omega (arith, first.moved.count, second.moved.count, many); part = second.moved.part }; adds = λ ys e l. let size = length-take-le 64 ys (omega (arith, e, many)) in
+    let second = c.add_word-2.ensures in record {
+      moved = record { count = omega (arith, first.moved.count, second.moved.count, many); part = second.moved.part };
+      adds = λ ys e l. let size = length-take-le 64 ys (omega (arith, e, many)) in
           rw (take-append-drop 64 ys) at (adds_both first.moved size (first.adds (take 64 ys) size (low_first ys _ l))
-          (second.adds (drop 64 ys) (length-drop 64 ys ∙ omega (arith, e)) (high_rest ys _ l (omega (arith, e, p))))) }
+          (second.adds (drop 64 ys) (length-drop 64 ys ∙ omega (arith, e)) (high_rest ys _ l (omega (arith, e, p)))));
+    }

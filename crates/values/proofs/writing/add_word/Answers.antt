@@ -1,6 +1,5 @@
 -- The marks come in above those that wait; a full word is written, and what comes over waits. Assumes nothing.
 use native.Mathlib.Omega.{arith}
-use borrow.Author.Rules.{rules}
 use Rattle.values.proofs.Output.{not_full, filled_up}
 use Rattle.values.proofs.writing.add_word.Goals as goal
 

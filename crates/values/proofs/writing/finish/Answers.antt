@@ -1,6 +1,5 @@
 -- Nothing waits, or one word does, or a zero word is due after it. Assumes nothing.
 use native.Mathlib.Omega.{arith}
-use borrow.Author.Rules.{rules}
 use Rattle.values.proofs.Output.{finished_full, finished_one, finished_two}
 use Rattle.values.proofs.writing.finish.Goals as goal
 

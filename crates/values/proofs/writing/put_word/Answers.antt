@@ -1,7 +1,6 @@
 -- A store past the end changes nothing. Assumes nothing.
 use mathlib.Core.Path.{sym}
 use lib.Seq.{set_out}
-use borrow.Author.Rules.{rules}
 use Rattle.values.proofs.writing.put_word.Goals as goal
 
 pub returns-else-at-out : goal.returns-else-at-out

@@ -1,6 +1,5 @@
 -- Two words for each 128 marks begun. Assumes nothing.
 use mathlib.Core.Path.{refl}
-use borrow.Author.Rules.{rules}
 use Rattle.model.specs.Word.{words_for}
 use Rattle.values.proofs.writing.words_for.Goals as goal
 

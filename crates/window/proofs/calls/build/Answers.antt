@@ -1,17 +1,8 @@
 -- The tests in their sequence; then the model's pool is built into the nodes, and its trailer is put behind them. Assumes nothing.
-use Prim.Native.Nat.{ℕ, ◌+◌, ◌-◌, ◌*◌, ◌/◌, ◌≤◌, ◌<◌}
 use native.Mathlib.Omega.{arith}
-use borrow.Author.Rules.{rules}
-use mathlib.Core.List.{List, ◌++◌}
-use mathlib.Core.Path.{◌≡◌, refl, sym, ap, ◌∙◌}
-use lib.ListN.{length, take, drop, length-append}
-use Rattle.model.specs.Build.{leaf_count}
-use Rattle.model.specs.Pool.{Pool}
-use Rattle.build.specs.Built.{Room}
-use Rattle.window.specs.Calls.{BuildsTo}
-use Rattle.window.specs.Layout.{Counted, Stands}
-use Rattle.window.proofs.OneState.{nodes_are, nodes_length}
-use Rattle.window.proofs.Builds.{no_built, long_built, full_built, done_built, Fits, fits_room, after_length, after_trailer, after_stands}
+use mathlib.Core.Path.{sym}
+use Rattle.window.proofs.OneState.{nodes_length}
+use Rattle.window.proofs.Builds.{no_built, long_built, full_built, Fits, fits_room, after_length, after_trailer, after_stands}
 use Rattle.window.proofs.Verdicts.{says_not}
 use Rattle.window.proofs.calls.build.Goals as goal
 
@@ -35,122 +26,122 @@ returns-then-n-leaf_count c =
 pub overflow_mul-end : goal.overflow_mul-end
 overflow_mul-end c =
     let fits : Fits c.args.pool.now
-        c.args.words.now
-        c.args.length
-        c.nodes_of-n.result = let n = c.nodes_of-n in
-        let k = n.ensures.yes (omega (arith, c.if-n-eq0.false)) in
-        let t = says_not c.too_few.ensures c.if-too_few.false in
-        record {
-          counted = k;
-          given = omega (arith, t);
-          enough = omega (arith, c.if-n-leaf_count.false, c.leaf_count.ensures);
-        } in
+    c.args.words.now
+    c.args.length
+    c.nodes_of-n.result = let n = c.nodes_of-n in
+    let k = n.ensures.yes (omega (arith, c.if-n-eq0.false)) in
+    let t = says_not c.too_few.ensures c.if-too_few.false in
+    record {
+      counted = k;
+      given = omega (arith, t);
+      enough = omega (arith, c.if-n-leaf_count.false, c.leaf_count.ensures);
+    } in
     let f = fits in omega (arith, f.counted.most)
 
 pub slice_bounds-build-end : goal.slice_bounds-build-end
 slice_bounds-build-end c =
     let fits : Fits c.args.pool.now
-        c.args.words.now
-        c.args.length
-        c.nodes_of-n.result = let n = c.nodes_of-n in
-        let k = n.ensures.yes (omega (arith, c.if-n-eq0.false)) in
-        let t = says_not c.too_few.ensures c.if-too_few.false in
-        record {
-          counted = k;
-          given = omega (arith, t);
-          enough = omega (arith, c.if-n-leaf_count.false, c.leaf_count.ensures);
-        } in
+    c.args.words.now
+    c.args.length
+    c.nodes_of-n.result = let n = c.nodes_of-n in
+    let k = n.ensures.yes (omega (arith, c.if-n-eq0.false)) in
+    let t = says_not c.too_few.ensures c.if-too_few.false in
+    record {
+      counted = k;
+      given = omega (arith, t);
+      enough = omega (arith, c.if-n-leaf_count.false, c.leaf_count.ensures);
+    } in
     let f = fits in omega (arith, f.counted.words)
 
 pub slice_bounds-build-end-2 : goal.slice_bounds-build-end-2
 slice_bounds-build-end-2 c =
     let fits : Fits c.args.pool.now
-        c.args.words.now
-        c.args.length
-        c.nodes_of-n.result = let n = c.nodes_of-n in
-        let k = n.ensures.yes (omega (arith, c.if-n-eq0.false)) in
-        let t = says_not c.too_few.ensures c.if-too_few.false in
-        record {
-          counted = k;
-          given = omega (arith, t);
-          enough = omega (arith, c.if-n-leaf_count.false, c.leaf_count.ensures);
-        } in
+    c.args.words.now
+    c.args.length
+    c.nodes_of-n.result = let n = c.nodes_of-n in
+    let k = n.ensures.yes (omega (arith, c.if-n-eq0.false)) in
+    let t = says_not c.too_few.ensures c.if-too_few.false in
+    record {
+      counted = k;
+      given = omega (arith, t);
+      enough = omega (arith, c.if-n-leaf_count.false, c.leaf_count.ensures);
+    } in
     let f = fits in sym (nodes_length _ _ f.counted)
 
 pub build-built-requires : goal.build-built-requires
 build-built-requires c =
     let fits : Fits c.args.pool.now
-        c.args.words.now
-        c.args.length
-        c.nodes_of-n.result = let n = c.nodes_of-n in
-        let k = n.ensures.yes (omega (arith, c.if-n-eq0.false)) in
-        let t = says_not c.too_few.ensures c.if-too_few.false in
-        record {
-          counted = k;
-          given = omega (arith, t);
-          enough = omega (arith, c.if-n-leaf_count.false, c.leaf_count.ensures);
-        } in
+    c.args.words.now
+    c.args.length
+    c.nodes_of-n.result = let n = c.nodes_of-n in
+    let k = n.ensures.yes (omega (arith, c.if-n-eq0.false)) in
+    let t = says_not c.too_few.ensures c.if-too_few.false in
+    record {
+      counted = k;
+      given = omega (arith, t);
+      enough = omega (arith, c.if-n-leaf_count.false, c.leaf_count.ensures);
+    } in
     fits_room (fits)
 
 pub offset_bounds-pool-end : goal.offset_bounds-pool-end
 offset_bounds-pool-end c =
     let fits : Fits c.args.pool.now
-        c.args.words.now
-        c.args.length
-        c.nodes_of-n.result = let n = c.nodes_of-n in
-        let k = n.ensures.yes (omega (arith, c.if-n-eq0.false)) in
-        let t = says_not c.too_few.ensures c.if-too_few.false in
-        record {
-          counted = k;
-          given = omega (arith, t);
-          enough = omega (arith, c.if-n-leaf_count.false, c.leaf_count.ensures);
-        } in
+    c.args.words.now
+    c.args.length
+    c.nodes_of-n.result = let n = c.nodes_of-n in
+    let k = n.ensures.yes (omega (arith, c.if-n-eq0.false)) in
+    let t = says_not c.too_few.ensures c.if-too_few.false in
+    record {
+      counted = k;
+      given = omega (arith, t);
+      enough = omega (arith, c.if-n-leaf_count.false, c.leaf_count.ensures);
+    } in
     let f = fits in omega (arith, f.counted.most)
 
 pub slice_bounds-set_trailer-count : goal.slice_bounds-set_trailer-count
 slice_bounds-set_trailer-count c =
     let fits : Fits c.args.pool.now
-        c.args.words.now
-        c.args.length
-        c.nodes_of-n.result = let n = c.nodes_of-n in
-        let k = n.ensures.yes (omega (arith, c.if-n-eq0.false)) in
-        let t = says_not c.too_few.ensures c.if-too_few.false in
-        record {
-          counted = k;
-          given = omega (arith, t);
-          enough = omega (arith, c.if-n-leaf_count.false, c.leaf_count.ensures);
-        } in
+    c.args.words.now
+    c.args.length
+    c.nodes_of-n.result = let n = c.nodes_of-n in
+    let k = n.ensures.yes (omega (arith, c.if-n-eq0.false)) in
+    let t = says_not c.too_few.ensures c.if-too_few.false in
+    record {
+      counted = k;
+      given = omega (arith, t);
+      enough = omega (arith, c.if-n-leaf_count.false, c.leaf_count.ensures);
+    } in
     let f = fits in
     omega (arith, after_length f _ _ c.build-built.ensures)
 
 pub set_trailer-requires : goal.set_trailer-requires
 set_trailer-requires c =
     let fits : Fits c.args.pool.now
-        c.args.words.now
-        c.args.length
-        c.nodes_of-n.result = let n = c.nodes_of-n in
-        let k = n.ensures.yes (omega (arith, c.if-n-eq0.false)) in
-        let t = says_not c.too_few.ensures c.if-too_few.false in
-        record {
-          counted = k;
-          given = omega (arith, t);
-          enough = omega (arith, c.if-n-leaf_count.false, c.leaf_count.ensures);
-        } in
+    c.args.words.now
+    c.args.length
+    c.nodes_of-n.result = let n = c.nodes_of-n in
+    let k = n.ensures.yes (omega (arith, c.if-n-eq0.false)) in
+    let t = says_not c.too_few.ensures c.if-too_few.false in
+    record {
+      counted = k;
+      given = omega (arith, t);
+      enough = omega (arith, c.if-n-leaf_count.false, c.leaf_count.ensures);
+    } in
     let f = fits in
     after_trailer f _ _ c.build-built.ensures
 
 pub returns : goal.returns
 returns c =
     let fits : Fits c.args.pool.now
-        c.args.words.now
-        c.args.length
-        c.nodes_of-n.result = let n = c.nodes_of-n in
-        let k = n.ensures.yes (omega (arith, c.if-n-eq0.false)) in
-        let t = says_not c.too_few.ensures c.if-too_few.false in
-        record {
-          counted = k;
-          given = omega (arith, t);
-          enough = omega (arith, c.if-n-leaf_count.false, c.leaf_count.ensures);
-        } in
+    c.args.words.now
+    c.args.length
+    c.nodes_of-n.result = let n = c.nodes_of-n in
+    let k = n.ensures.yes (omega (arith, c.if-n-eq0.false)) in
+    let t = says_not c.too_few.ensures c.if-too_few.false in
+    record {
+      counted = k;
+      given = omega (arith, t);
+      enough = omega (arith, c.if-n-leaf_count.false, c.leaf_count.ensures);
+    } in
     let f = fits in
     after_stands f _ _ c.build-built.ensures _ c.set_trailer.ensures

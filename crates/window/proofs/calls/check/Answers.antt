@@ -1,8 +1,6 @@
 -- The words are no pool's, or they are judged. Assumes nothing.
 use native.Mathlib.Omega.{arith}
-use borrow.Author.Rules.{rules}
-use mathlib.Core.Path.{◌≡◌, sym, ap, ◌∙◌}
-use Rattle.window.specs.Calls.{Judges}
+use mathlib.Core.Path.{ap, ◌∙◌}
 use Rattle.window.specs.declared.trailer.Trailer.{Trailer}
 use Rattle.window.proofs.OneState.{stands_length}
 use Rattle.window.proofs.Verdicts.{no_checked, damaged_checked, stands_checked}

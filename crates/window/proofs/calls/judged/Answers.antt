@@ -1,22 +1,19 @@
 -- The trailer's words are read, and the nodes are judged with them; a pool that stands has just these words. Assumes nothing.
 use Prim.Native.Nat.{ℕ, ◌-◌, ◌*◌}
 use native.Mathlib.Omega.{arith}
-use borrow.Author.Rules.{rules}
 use mathlib.Core.Path.{◌≡◌, sym, ap, ◌∙◌}
-use mathlib.Core.Bool.{true, false}
-use lib.ListN.{length, take, drop, length-drop}
+use lib.ListN.{length, drop, length-drop}
 use lib.Seq.{take_all}
-use Rattle.sound.specs.Judged.{Judged}
-use Rattle.window.specs.Layout.{WellFormed, trailer_in}
+use Rattle.window.specs.Layout.{trailer_in}
 use Rattle.window.proofs.OneState.{nodes_length, nodes_are, well_at, correct_stands, stands_correct, stands_nodes, stands_last}
 use Rattle.window.proofs.calls.judged.Goals as goal
 
 pub returns-then-trailer-n : goal.returns-then-trailer-n
 returns-then-trailer-n c =
     let told :
-        c.trailer_of-trailer.result ≡ trailer_in (drop (c.args.n * 6) c.args.pool.now) =
-        c.trailer_of-trailer.ensures ∙ ap trailer_in (take_all (length c.args.pool.now - c.args.n * 6) (drop (c.args.n * 6) c.args.pool.now)
-        (omega (arith, length-drop (c.args.n * 6) c.args.pool.now))) in
+    c.trailer_of-trailer.result ≡ trailer_in (drop (c.args.n * 6) c.args.pool.now) =
+    c.trailer_of-trailer.ensures ∙ ap trailer_in (take_all (length c.args.pool.now - c.args.n * 6) (drop (c.args.n * 6) c.args.pool.now)
+    (omega (arith, length-drop (c.args.n * 6) c.args.pool.now))) in
     λ x.
     let q = well_at c.args.pool.now c.args.n c.requires x in
     c.if-trailer-n.true (rw (told) (stands_nodes c.args.pool.now c.args.n c.requires q.0 q.1))
@@ -24,9 +21,9 @@ returns-then-trailer-n c =
 pub returns-then-trailer-ne0 : goal.returns-then-trailer-ne0
 returns-then-trailer-ne0 c =
     let told :
-        c.trailer_of-trailer.result ≡ trailer_in (drop (c.args.n * 6) c.args.pool.now) =
-        c.trailer_of-trailer.ensures ∙ ap trailer_in (take_all (length c.args.pool.now - c.args.n * 6) (drop (c.args.n * 6) c.args.pool.now)
-        (omega (arith, length-drop (c.args.n * 6) c.args.pool.now))) in
+    c.trailer_of-trailer.result ≡ trailer_in (drop (c.args.n * 6) c.args.pool.now) =
+    c.trailer_of-trailer.ensures ∙ ap trailer_in (take_all (length c.args.pool.now - c.args.n * 6) (drop (c.args.n * 6) c.args.pool.now)
+    (omega (arith, length-drop (c.args.n * 6) c.args.pool.now))) in
     λ x.
     let q = well_at c.args.pool.now c.args.n c.requires x in
     c.if-trailer-ne0.true (rw (told) (stands_last c.args.pool.now c.args.n c.requires q.0 q.1))
@@ -42,9 +39,9 @@ sound-requires c =
 pub returns-then-sound : goal.returns-then-sound
 returns-then-sound c =
     let told :
-        c.trailer_of-trailer.result ≡ trailer_in (drop (c.args.n * 6) c.args.pool.now) =
-        c.trailer_of-trailer.ensures ∙ ap trailer_in (take_all (length c.args.pool.now - c.args.n * 6) (drop (c.args.n * 6) c.args.pool.now)
-        (omega (arith, length-drop (c.args.n * 6) c.args.pool.now))) in
+    c.trailer_of-trailer.result ≡ trailer_in (drop (c.args.n * 6) c.args.pool.now) =
+    c.trailer_of-trailer.ensures ∙ ap trailer_in (take_all (length c.args.pool.now - c.args.n * 6) (drop (c.args.n * 6) c.args.pool.now)
+    (omega (arith, length-drop (c.args.n * 6) c.args.pool.now))) in
     let t = told in
     let p = (rw t at c.sound.ensures).yes c.if-sound.true in (
       p.0,
@@ -56,9 +53,9 @@ returns-then-sound c =
 pub returns : goal.returns
 returns c =
     let told :
-        c.trailer_of-trailer.result ≡ trailer_in (drop (c.args.n * 6) c.args.pool.now) =
-        c.trailer_of-trailer.ensures ∙ ap trailer_in (take_all (length c.args.pool.now - c.args.n * 6) (drop (c.args.n * 6) c.args.pool.now)
-        (omega (arith, length-drop (c.args.n * 6) c.args.pool.now))) in
+    c.trailer_of-trailer.result ≡ trailer_in (drop (c.args.n * 6) c.args.pool.now) =
+    c.trailer_of-trailer.ensures ∙ ap trailer_in (take_all (length c.args.pool.now - c.args.n * 6) (drop (c.args.n * 6) c.args.pool.now)
+    (omega (arith, length-drop (c.args.n * 6) c.args.pool.now))) in
     λ x.
     let q = well_at c.args.pool.now c.args.n c.requires x in
     let yes = (rw (told) at c.sound.ensures).no q.0

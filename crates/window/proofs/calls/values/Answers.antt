@@ -1,17 +1,15 @@
 -- The pool is judged first; where it stands and the output has room, the marks of its tree are written. Assumes nothing.
 use Prim.Native.Nat.{ℕ, ◌*◌, ◌^◌, ◌≤◌}
 use native.Mathlib.Omega.{arith}
-use borrow.Author.Rules.{rules}
 use mathlib.Core.List.{List}
-use mathlib.Core.Path.{◌≡◌, refl, sym, ap, ◌∙◌}
-use lib.ListN.{length, take, drop}
+use mathlib.Core.Path.{◌≡◌, sym, ap, ◌∙◌}
+use lib.ListN.{take}
 use Rattle.model.specs.Pool.{Pool}
-use Rattle.model.specs.Tree.{Tree, marks, size}
-use Rattle.model.specs.Word.{words_for, words_of}
+use Rattle.model.specs.Tree.{size}
+use Rattle.model.specs.Word.{words_for}
 use Rattle.model.proofs.Depth.{size_bound}
 use Rattle.pool.specs.Layout.{Rooted}
-use Rattle.window.specs.Calls.{Judges}
-use Rattle.window.specs.Layout.{Stands, trailer_in}
+use Rattle.window.specs.Layout.{Stands}
 use Rattle.window.specs.declared.trailer.Trailer.{Trailer}
 use Rattle.window.proofs.OneState.{nodes_length, stands_length, stands_root, stands_rooted}
 use Rattle.window.proofs.Verdicts.{no_valued, damaged_valued, short_valued, written_valued}
@@ -34,105 +32,105 @@ judged-requires c = c.nodes_of-n.ensures.yes (omega (arith, c.if-n-eq0.false))
 pub words_for-words-requires : goal.words_for-words-requires
 words_for-words-requires c =
     let trailer-read : TrailerRead c.args.pool.now
-        c.nodes_of-n.result c.in-Stands.trailer =
-        let ws = c.args.pool.now in
-        let n = c.nodes_of-n.result in
-        let j = rw c.in-Stands.is at c.judged.ensures in
-        let deep = stands_rooted ws n j.0 j.1 in
-        record {
-          pool = j.0;
-          stands = j.1;
-          total = ap (λ (t : Trailer). t.length) j.2 ∙ stands_length ws n j.1.counted j.0 j.1;
-          rooted = rw (ap (λ (t : Trailer). t.root) j.2 ∙ stands_root ws n j.1.counted j.0 j.1) deep;
-          few = size_bound 0 j.0.tree 12 deep.sized deep.deep;
-        } in
+    c.nodes_of-n.result c.in-Stands.trailer =
+    let ws = c.args.pool.now in
+    let n = c.nodes_of-n.result in
+    let j = rw c.in-Stands.is at c.judged.ensures in
+    let deep = stands_rooted ws n j.0 j.1 in
+    record {
+      pool = j.0;
+      stands = j.1;
+      total = ap (λ (t : Trailer). t.length) j.2 ∙ stands_length ws n j.1.counted j.0 j.1;
+      rooted = rw (ap (λ (t : Trailer). t.root) j.2 ∙ stands_root ws n j.1.counted j.0 j.1) deep;
+      few = size_bound 0 j.0.tree 12 deep.sized deep.deep;
+    } in
     let s = trailer-read in omega (arith, s.total, s.few)
 
 pub returns-then-out-words : goal.returns-then-out-words
 returns-then-out-words c =
     let trailer-read : TrailerRead c.args.pool.now
-        c.nodes_of-n.result c.in-Stands.trailer =
-        let ws = c.args.pool.now in
-        let n = c.nodes_of-n.result in
-        let j = rw c.in-Stands.is at c.judged.ensures in
-        let deep = stands_rooted ws n j.0 j.1 in
-        record {
-          pool = j.0;
-          stands = j.1;
-          total = ap (λ (t : Trailer). t.length) j.2 ∙ stands_length ws n j.1.counted j.0 j.1;
-          rooted = rw (ap (λ (t : Trailer). t.root) j.2 ∙ stands_root ws n j.1.counted j.0 j.1) deep;
-          few = size_bound 0 j.0.tree 12 deep.sized deep.deep;
-        } in
+    c.nodes_of-n.result c.in-Stands.trailer =
+    let ws = c.args.pool.now in
+    let n = c.nodes_of-n.result in
+    let j = rw c.in-Stands.is at c.judged.ensures in
+    let deep = stands_rooted ws n j.0 j.1 in
+    record {
+      pool = j.0;
+      stands = j.1;
+      total = ap (λ (t : Trailer). t.length) j.2 ∙ stands_length ws n j.1.counted j.0 j.1;
+      rooted = rw (ap (λ (t : Trailer). t.root) j.2 ∙ stands_root ws n j.1.counted j.0 j.1) deep;
+      few = size_bound 0 j.0.tree 12 deep.sized deep.deep;
+    } in
     let s = trailer-read in
     short_valued _ _ s.pool s.stands _ (rw (← s.total, ← c.words_for-words.ensures) c.if-out-words.true)
 
 pub overflow_mul-end : goal.overflow_mul-end
 overflow_mul-end c =
     let trailer-read : TrailerRead c.args.pool.now
-        c.nodes_of-n.result c.in-Stands.trailer =
-        let ws = c.args.pool.now in
-        let n = c.nodes_of-n.result in
-        let j = rw c.in-Stands.is at c.judged.ensures in
-        let deep = stands_rooted ws n j.0 j.1 in
-        record {
-          pool = j.0;
-          stands = j.1;
-          total = ap (λ (t : Trailer). t.length) j.2 ∙ stands_length ws n j.1.counted j.0 j.1;
-          rooted = rw (ap (λ (t : Trailer). t.root) j.2 ∙ stands_root ws n j.1.counted j.0 j.1) deep;
-          few = size_bound 0 j.0.tree 12 deep.sized deep.deep;
-        } in
+    c.nodes_of-n.result c.in-Stands.trailer =
+    let ws = c.args.pool.now in
+    let n = c.nodes_of-n.result in
+    let j = rw c.in-Stands.is at c.judged.ensures in
+    let deep = stands_rooted ws n j.0 j.1 in
+    record {
+      pool = j.0;
+      stands = j.1;
+      total = ap (λ (t : Trailer). t.length) j.2 ∙ stands_length ws n j.1.counted j.0 j.1;
+      rooted = rw (ap (λ (t : Trailer). t.root) j.2 ∙ stands_root ws n j.1.counted j.0 j.1) deep;
+      few = size_bound 0 j.0.tree 12 deep.sized deep.deep;
+    } in
     let s = trailer-read in omega (arith, s.stands.counted.most)
 
 pub slice_bounds-values-end : goal.slice_bounds-values-end
 slice_bounds-values-end c =
     let trailer-read : TrailerRead c.args.pool.now
-        c.nodes_of-n.result c.in-Stands.trailer =
-        let ws = c.args.pool.now in
-        let n = c.nodes_of-n.result in
-        let j = rw c.in-Stands.is at c.judged.ensures in
-        let deep = stands_rooted ws n j.0 j.1 in
-        record {
-          pool = j.0;
-          stands = j.1;
-          total = ap (λ (t : Trailer). t.length) j.2 ∙ stands_length ws n j.1.counted j.0 j.1;
-          rooted = rw (ap (λ (t : Trailer). t.root) j.2 ∙ stands_root ws n j.1.counted j.0 j.1) deep;
-          few = size_bound 0 j.0.tree 12 deep.sized deep.deep;
-        } in
+    c.nodes_of-n.result c.in-Stands.trailer =
+    let ws = c.args.pool.now in
+    let n = c.nodes_of-n.result in
+    let j = rw c.in-Stands.is at c.judged.ensures in
+    let deep = stands_rooted ws n j.0 j.1 in
+    record {
+      pool = j.0;
+      stands = j.1;
+      total = ap (λ (t : Trailer). t.length) j.2 ∙ stands_length ws n j.1.counted j.0 j.1;
+      rooted = rw (ap (λ (t : Trailer). t.root) j.2 ∙ stands_root ws n j.1.counted j.0 j.1) deep;
+      few = size_bound 0 j.0.tree 12 deep.sized deep.deep;
+    } in
     let s = trailer-read in sym (nodes_length _ _ s.stands.counted)
 
 pub values-requires : goal.values-requires
 values-requires c =
     let trailer-read : TrailerRead c.args.pool.now
-        c.nodes_of-n.result c.in-Stands.trailer =
-        let ws = c.args.pool.now in
-        let n = c.nodes_of-n.result in
-        let j = rw c.in-Stands.is at c.judged.ensures in
-        let deep = stands_rooted ws n j.0 j.1 in
-        record {
-          pool = j.0;
-          stands = j.1;
-          total = ap (λ (t : Trailer). t.length) j.2 ∙ stands_length ws n j.1.counted j.0 j.1;
-          rooted = rw (ap (λ (t : Trailer). t.root) j.2 ∙ stands_root ws n j.1.counted j.0 j.1) deep;
-          few = size_bound 0 j.0.tree 12 deep.sized deep.deep;
-        } in
+    c.nodes_of-n.result c.in-Stands.trailer =
+    let ws = c.args.pool.now in
+    let n = c.nodes_of-n.result in
+    let j = rw c.in-Stands.is at c.judged.ensures in
+    let deep = stands_rooted ws n j.0 j.1 in
+    record {
+      pool = j.0;
+      stands = j.1;
+      total = ap (λ (t : Trailer). t.length) j.2 ∙ stands_length ws n j.1.counted j.0 j.1;
+      rooted = rw (ap (λ (t : Trailer). t.root) j.2 ∙ stands_root ws n j.1.counted j.0 j.1) deep;
+      few = size_bound 0 j.0.tree 12 deep.sized deep.deep;
+    } in
     let s = trailer-read in
     (s.pool.tree, s.rooted, sym s.total, rw (← c.words_for-words.ensures) c.if-out-words.false)
 
 pub returns-else-out-words : goal.returns-else-out-words
 returns-else-out-words c =
     let trailer-read : TrailerRead c.args.pool.now
-        c.nodes_of-n.result c.in-Stands.trailer =
-        let ws = c.args.pool.now in
-        let n = c.nodes_of-n.result in
-        let j = rw c.in-Stands.is at c.judged.ensures in
-        let deep = stands_rooted ws n j.0 j.1 in
-        record {
-          pool = j.0;
-          stands = j.1;
-          total = ap (λ (t : Trailer). t.length) j.2 ∙ stands_length ws n j.1.counted j.0 j.1;
-          rooted = rw (ap (λ (t : Trailer). t.root) j.2 ∙ stands_root ws n j.1.counted j.0 j.1) deep;
-          few = size_bound 0 j.0.tree 12 deep.sized deep.deep;
-        } in
+    c.nodes_of-n.result c.in-Stands.trailer =
+    let ws = c.args.pool.now in
+    let n = c.nodes_of-n.result in
+    let j = rw c.in-Stands.is at c.judged.ensures in
+    let deep = stands_rooted ws n j.0 j.1 in
+    record {
+      pool = j.0;
+      stands = j.1;
+      total = ap (λ (t : Trailer). t.length) j.2 ∙ stands_length ws n j.1.counted j.0 j.1;
+      rooted = rw (ap (λ (t : Trailer). t.root) j.2 ∙ stands_root ws n j.1.counted j.0 j.1) deep;
+      few = size_bound 0 j.0.tree 12 deep.sized deep.deep;
+    } in
     let s = trailer-read in
     let e = c.words_for-words.ensures in
     let t = ap words_for s.total in

@@ -1,8 +1,6 @@
 -- Six stores over six words leave the six that were stored. Assumes nothing.
 use native.Mathlib.Omega.{arith}
-use borrow.Author.Rules.{rules}
 use lib.ListN.{length-set}
-use Rattle.window.proofs.OneState.{set_six}
 use Rattle.window.proofs.trailer.set_trailer.Goals as goal
 
 pub bounds-words-4 : goal.bounds-words-4
