@@ -1,4 +1,4 @@
--- What the loop keeps, and the measure that falls.
+-- The measure that falls.
 use Rattle.grow.proofs.inserting.+insert_below.Given as goal
 
 abbrev pub decreases-insert_below : goal.decreases-insert_below

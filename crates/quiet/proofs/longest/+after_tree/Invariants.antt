@@ -1,4 +1,4 @@
--- What the loop keeps, and the measure that falls.
+-- The measure that falls.
 use Rattle.quiet.proofs.longest.+after_tree.Given as goal
 
 abbrev pub decreases-after_tree : goal.decreases-after_tree

@@ -1,4 +1,4 @@
--- What the loop keeps, and the measure that falls.
+-- The measure that falls.
 use Rattle.shrink.proofs.removing.+remove_below.Given as goal
 
 abbrev pub decreases-remove_below : goal.decreases-remove_below

@@ -1,4 +1,4 @@
--- What the loop keeps, and the measure that falls.
+-- The measure that falls.
 use Rattle.values.proofs.writing.+add_marks.Given as goal
 
 abbrev pub decreases-add_marks : goal.decreases-add_marks
