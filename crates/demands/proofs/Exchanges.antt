@@ -1,37 +1,37 @@
 -- The promises of one order among others. For a user: look at an order anywhere in a list that was run, at its answer,
 -- and at the pool's words before it and after it. If it was refused the words are the same. If it was answered 4, it is
 -- an insert that found no room, and every such insert is answered so. All else is what the plain list says.
-use Prim.Native.Nat.{ℕ, zero, suc, ◌+◌, ◌-◌, ◌*◌, ◌%◌, ◌≤◌, ◌<◌}
+use Prim.Native.Nat.{ℕ, zero, suc, ◌-◌, ◌*◌, ◌%◌, ◌≤◌}
 use native.Mathlib.Omega.{arith}
 use mathlib.Core.Path.{◌≡◌, refl, sym, ap, ap₂, ◌∙◌}
 use mathlib.Core.Bool.{Bool, true, false}
 use mathlib.Core.List.{List, [], ◌∷◌, ◌++◌}
-use lib.ListN.{length, drop, get_or}
+use lib.ListN.{length}
 use Rattle.model.specs.Limits.{least_full}
 use Rattle.model.specs.Marks as Marks
 use Rattle.model.specs.Pool.{Pool}
 use Rattle.model.specs.Tree.{marks, size}
-use Rattle.model.proofs.Cases.{by_leb, by_test}
+use Rattle.model.proofs.Cases.{by_test}
 use Rattle.model.proofs.Content.{size_marks}
 use Rattle.model.proofs.Floor.{floor_window}
 use Rattle.order.specs.Answer.{code, value}
 use Rattle.window.specs.Layout.{Counted, Stands, trailer_of}
 use Rattle.serve.specs.Orders as Serve
 use Rattle.model.specs.Word.{digit}
-use Rattle.order.specs.Asked.{Asked, asks, with_bit, with_zero, inserting, removing, unknown}
+use Rattle.order.specs.Asked.{Asked, asks, with_bit, inserting, unknown}
 use Rattle.order.specs.Plain.{list_after, list_answer}
 use Rattle.run.specs.Orders.{answer, after, answers, after_all, answer_words, orders_of, no_room}
-use Rattle.order.specs.declared.answer.Answer.TheVariants.{Done, Full}
+use Rattle.order.specs.declared.answer.Answer.TheVariants.{Full}
 use Rattle.window.proofs.OneState.{counted_one, one_state}
-use Rattle.window.proofs.Pinned.{Likely, cases, one_layout, words_stable}
+use Rattle.window.proofs.Pinned.{Likely, one_layout, words_stable}
 use Rattle.demands.specs.Following.{full, AllRefused, ListAnswers, TellsFull}
-use Rattle.demands.specs.History.{Accepted, Entry, Exchange, History, InRun, all_orders, asked, log, trailer}
+use Rattle.demands.specs.History.{Accepted, Entry, Exchange, History, InRun, asked, log, trailer}
 use Rattle.demands.specs.Promises.{HoldsMarks, Inserts, NoRoom}
 use Rattle.demands.proofs.Floor.{full_above_floor}
 use Rattle.demands.proofs.Histories.{built, means}
 use Rattle.demands.proofs.NothingLost.{insert_done, remove_done}
 use Rattle.demands.proofs.OrderByOrder.{by_kind, inserting_count, list_codes, not_inserting}
-use Rattle.demands.proofs.Reading.{Met, accepted_means, accepted_stands, becomes, becomes_append, done_no, exchange_met, tells, tells_append}
+use Rattle.demands.proofs.Reading.{Met, accepted_means, accepted_stands, becomes, becomes_append, exchange_met, tells, tells_append}
 use Rattle.demands.proofs.Refusals.{Roomless, full_if, full_only_if, refused_changes_nothing}
 use Rattle.demands.proofs.TheList.{one_order, one_order_full}
 

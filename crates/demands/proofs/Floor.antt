@@ -1,7 +1,7 @@
 -- Demand 3, the floor. For a user: however a window was built and whatever was ordered since, over any number of runs, a pool of N nodes answers no
 -- insert Full below so many marks: 127 where there is room for one leaf, else 33 for each leaf that the nodes allow, and 62. For the 1,023 nodes of a
 -- window these are 16,958.
-use Prim.Native.Nat.{ℕ, ◌≤◌, ◌<◌}
+use Prim.Native.Nat.{ℕ, ◌≤◌}
 use native.Mathlib.Omega.{arith}
 use mathlib.Core.Path.{◌≡◌, sym, ap, ◌∙◌}
 use mathlib.Core.Bool.{Bool}
@@ -22,7 +22,7 @@ use Rattle.serve.specs.Orders as Serve
 use Rattle.order.specs.Asked.{Asked, inserting, removing}
 use Rattle.run.specs.Orders.{after, after_all, answer}
 use Rattle.order.specs.declared.answer.Answer.TheVariants.{Full}
-use Rattle.demands.proofs.Refusals.{Roomless, full_if, full_only_if}
+use Rattle.demands.proofs.Refusals.{full_if, full_only_if}
 
 -- any order that a sound pool answers Full
 pub full_above_floor : (n : ℕ) (o : Asked) (p : Pool) → Sound n p → answer o p ≡ Full → least_full n ≤ length (marks p.tree)

@@ -1,15 +1,13 @@
 -- The promises over a history. For a user: whatever was built and run, all that was answered is what a plain list of
 -- bits answers, or 4, 0; what check tells and values writes is that list; and a larger slice answers the same until the
 -- smaller one is full.
-use Prim.Native.Nat.{ℕ, ◌+◌, ◌-◌, ◌*◌, ◌%◌, ◌≤◌, ◌<◌}
+use Prim.Native.Nat.{ℕ, ◌+◌, ◌≤◌}
 use native.Mathlib.Omega.{arith}
-use mathlib.Core.Path.{◌≡◌, refl, sym, ap, ap₂, ◌∙◌}
+use mathlib.Core.Path.{◌≡◌, refl, ap, ◌∙◌}
 use mathlib.Core.Bool.{Bool}
 use mathlib.Core.List.{List, ◌++◌}
-use lib.ListN.{length, take, drop}
+use lib.ListN.{length, drop}
 use lib.Seq.{length-take-le}
-use Rattle.model.specs.Pool as Pool
-use Rattle.model.specs.Pool.{Pool}
 use Rattle.model.specs.Tree.{marks, size}
 use Rattle.model.specs.Word.{marks_of, words_of, words_for}
 use Rattle.model.proofs.BuiltContent.{build_marks}
@@ -20,15 +18,13 @@ use Rattle.build.proofs.LeafMarks.{marks_of_length}
 use Rattle.order.specs.Answer.{code, value}
 use Rattle.run.specs.Runs.{order_count}
 use Rattle.window.specs.Calls.{Checked, Valued}
-use Rattle.window.specs.Layout.{Counted, Stands}
 use Rattle.run.specs.Orders.{answer_words, list_after_all, list_answers, orders_of}
 use Rattle.order.specs.declared.answer.Answer.TheVariants.{Done}
-use Rattle.window.proofs.Pinned.{Likely, cases, words_stable}
-use Rattle.demands.specs.Following.{AgreeOrFull, AllRefused, Follows, NoneFull, carried_out, done}
-use Rattle.demands.specs.History.{Accepted, History, all_orders, log}
+use Rattle.demands.specs.Following.{AgreeOrFull, Follows, NoneFull, carried_out, done}
+use Rattle.demands.specs.History.{History, all_orders, log}
 use Rattle.demands.specs.Promises.{HoldsMarks, given}
 use Rattle.demands.proofs.NothingLost as NothingLost
-use Rattle.demands.proofs.Reading.{Built, Means, accepted_means, becomes, becomes_append, build_means, done_no, runs_mean, tells, tells_append}
+use Rattle.demands.proofs.Reading.{Built, Means, becomes, build_means, done_no, runs_mean}
 use Rattle.demands.proofs.TheList as TheList
 use Rattle.demands.proofs.TwoPools.{two_pools}
 

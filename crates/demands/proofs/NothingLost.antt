@@ -1,9 +1,9 @@
 -- Nothing is lost. For a user: what was answered 0 was carried out, what was not changed nothing, and so the marks held after any
 -- orders are as many as before, and the inserts answered 0, less the removes answered 0.
-use Prim.Native.Nat.{ℕ, zero, suc, ◌+◌, ◌%◌, ◌≤◌, ◌<◌}
+use Prim.Native.Nat.{ℕ, ◌+◌, ◌%◌, ◌≤◌, ◌<◌}
 use native.Mathlib.Omega.{arith}
-use mathlib.Core.Path.{◌≡◌, refl, sym, ap, ◌∙◌}
-use mathlib.Core.Bool.{Bool, true, false, ◌&&◌}
+use mathlib.Core.Path.{◌≡◌, refl, ap, ◌∙◌}
+use mathlib.Core.Bool.{Bool}
 use mathlib.Core.List.{List, [], ◌∷◌}
 use lib.Dec.{eqb}
 use lib.ListN.{length}
@@ -16,7 +16,7 @@ use Rattle.model.proofs.MarksEdits.{length_insert, length_remove}
 use Rattle.order.specs.Answer.{code, value}
 use Rattle.serve.specs.Orders as Serve
 use Rattle.model.specs.Word.{digit}
-use Rattle.order.specs.Asked.{asks, with_bit, with_zero, inserting, removing, accessing, ranking, selecting, quiet, unknown}
+use Rattle.order.specs.Asked.{asks, inserting, removing}
 use Rattle.order.specs.Plain.{in_range, list_answer, list_after}
 use Rattle.run.specs.Orders.{no_room, answer, after, answers, after_all, answer_words, orders_of}
 use Rattle.order.specs.declared.answer.Answer.TheVariants.{Done}
@@ -25,7 +25,6 @@ use Rattle.demands.specs.History.{Entry, log}
 use Rattle.demands.proofs.OrderByOrder.{after_marks, by_kind}
 use Rattle.demands.proofs.Reading.{tells, becomes}
 use Rattle.demands.proofs.Refusals.{refused_changes_nothing}
-use Rattle.demands.proofs.TheList.{done_marks}
 
 -- ---- done is done
 

@@ -1,9 +1,9 @@
 -- One order at a time: a pool stays sound whatever is ordered, and where there is room its marks become those of the plain list.
-use Prim.Native.Nat.{ℕ, zero, suc, ◌≤◌, ◌<◌}
+use Prim.Native.Nat.{ℕ, zero, suc, ◌≤◌}
 use native.Mathlib.Omega.{arith}
-use mathlib.Core.Path.{◌≡◌, refl, sym, ap, ◌∙◌}
-use mathlib.Core.Bool.{Bool, true, false, ◌&&◌}
-use mathlib.Core.List.{List, [], ◌∷◌}
+use mathlib.Core.Path.{◌≡◌, refl, ap}
+use mathlib.Core.Bool.{Bool, true, false}
+use mathlib.Core.List.{List}
 use mathlib.Core.Option.{Option, none, some}
 use lib.Dec.{leb, ltb}
 use lib.ListN.{length, drop}
@@ -11,8 +11,7 @@ use Rattle.model.specs.Edit as Edit
 use Rattle.model.specs.Marks as Marks
 use Rattle.model.specs.Pool as Pool
 use Rattle.model.specs.Pool.{Pool, two_free}
-use Rattle.model.specs.Sound.{Sound}
-use Rattle.model.specs.Tree.{marks, size}
+use Rattle.model.specs.Tree.{marks}
 use Rattle.model.proofs.Cases.{by_leb, by_ltb, by_test}
 use Rattle.model.proofs.Content.{size_marks}
 use Rattle.model.proofs.PoolSound.{insert_pool_marks, remove_pool_marks}
@@ -22,7 +21,7 @@ use Rattle.model.specs.Word.{digit}
 use Rattle.order.specs.Asked.{Asked, asks, with_bit, with_zero, inserting, removing, accessing, ranking, selecting, quiet, unknown}
 use Rattle.order.specs.Plain.{in_range, placed, list_answer, list_after}
 use Rattle.serve.specs.Orders.{or_else}
-use Rattle.run.specs.Orders.{no_room, after, after_all}
+use Rattle.run.specs.Orders.{no_room, after}
 use Rattle.order.specs.Answer.{code}
 use Rattle.order.specs.declared.answer.Answer.TheVariants.{Done}
 

@@ -1,28 +1,26 @@
 -- From the words of the calls to the pools that stand in them: what accepted runs have done to the pool, and what they have told.
-use Prim.Native.Nat.{ℕ, zero, suc, ◌+◌, ◌-◌, ◌*◌, ◌/◌, ◌%◌, ◌≤◌, ◌<◌}
+use Prim.Native.Nat.{ℕ, suc, ◌-◌, ◌*◌, ◌/◌, ◌%◌, ◌≤◌}
 use native.Mathlib.Nat.{add-zero}
 use native.Mathlib.Omega.{arith}
 use mathlib.Core.Path.{◌≡◌, refl, sym, ap, ap₂, ◌∙◌}
-use mathlib.Core.Bool.{Bool}
-use mathlib.Core.List.{List, [], ◌∷◌, ◌++◌, append_assoc}
+use mathlib.Core.List.{List, [], ◌∷◌, ◌++◌}
 use mathlib.Core.Option.{Option, none, some}
 use lib.ListN.{length, take, drop, get_or, length-append}
 use lib.Seq.{take_at, get_or-append-add}
 use Rattle.model.specs.Pool as Pool
 use Rattle.model.specs.Pool.{Pool}
-use Rattle.model.specs.Tree.{size}
 use Rattle.model.specs.Word.{marks_of}
 use Rattle.model.proofs.Cases.{by_ltb}
 use Rattle.order.specs.Answer.{code, value}
-use Rattle.run.specs.Runs.{Ran, order_count}
+use Rattle.run.specs.Runs.{order_count}
 use Rattle.window.specs.Calls.{NoPool, BuildsTo}
-use Rattle.window.specs.Layout.{Counted, Stands, WellFormed, trailer_of}
+use Rattle.window.specs.Layout.{Counted, Stands}
 use Rattle.order.specs.Asked.{Asked, asks}
 use Rattle.run.specs.Orders.{orders_of, answer, after, answers, after_all, answer_words}
 use Rattle.order.specs.declared.answer.Answer.{Answer}
 use Rattle.order.specs.declared.answer.Answer.TheVariants.{Done}
 use Rattle.window.proofs.Pinned.{Likely, cases}
-use Rattle.demands.specs.History.{Accepted, Entry, Exchange, History, InRun, Runs, all_orders, asked, log, order_words, trailer}
+use Rattle.demands.specs.History.{Accepted, Exchange, InRun, Runs, all_orders, asked, order_words}
 
 -- ---- lists of orders and of answers, one behind the other
 

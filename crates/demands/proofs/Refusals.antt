@@ -2,11 +2,9 @@
 -- applies to it.
 use Prim.Native.Nat.{ℕ, zero, suc, ◌≤◌, ◌<◌}
 use native.Mathlib.Omega.{arith}
-use mathlib.Core.Path.{◌≡◌, refl, sym, ap, ◌∙◌}
-use mathlib.Core.Bool.{Bool, true, false, ◌&&◌}
+use mathlib.Core.Path.{◌≡◌, refl, ap}
+use mathlib.Core.Bool.{Bool}
 use mathlib.Core.List.{List}
-use mathlib.Core.Option.{Option, none, some}
-use lib.Dec.{leb, ltb}
 use lib.ListN.{length}
 use Rattle.model.specs.Edit.{leaf_at}
 use Rattle.model.specs.Marks as Marks
@@ -21,8 +19,7 @@ use Rattle.order.specs.Answer.{code}
 use Rattle.serve.specs.Orders as Serve
 use Rattle.order.specs.Asked.{Asked, inserting, removing, accessing, ranking, selecting, quiet, unknown}
 use Rattle.order.specs.Plain.{in_range, placed, list_answer}
-use Rattle.run.specs.Orders.{no_room, answer, after}
-use Rattle.order.specs.declared.answer.Answer.{Answer}
+use Rattle.run.specs.Orders.{answer, after}
 use Rattle.order.specs.declared.answer.Answer.TheVariants.{Done, OutOfRange, NoZeroth, TooFew, Full, Malformed}
 use Rattle.demands.proofs.OrderByOrder.{list_codes, by_room}
 

@@ -2,11 +2,10 @@
 --
 -- A contract has a case for each thing that the words can be, and that one of them is the case is known doubly negated. That is enough, as words can
 -- be compared.
-use Prim.Native.Nat.{ℕ, zero, suc, ◌*◌, ◌/◌, ◌%◌, ◌≤◌, ◌<◌}
+use Prim.Native.Nat.{ℕ, ◌*◌, ◌%◌, ◌≤◌, ◌<◌}
 use native.Mathlib.Omega.{arith}
-use mathlib.Core.Path.{◌≡◌, refl, sym, ap, ◌∙◌}
+use mathlib.Core.Path.{◌≡◌, refl, ap}
 use mathlib.Core.List.{List}
-use mathlib.Core.Bool.{Bool}
 use mathlib.Core.Option.{Option, none, some}
 use lib.ListN.{length, take}
 use Rattle.model.specs.Pool as Pool
@@ -16,8 +15,8 @@ use Rattle.model.specs.Word.{marks_of, words_for}
 use Rattle.model.proofs.Cases.{by_ltb}
 use Rattle.order.specs.Answer.{code}
 use Rattle.run.specs.Runs.{Ran, Unchanged, order_count}
-use Rattle.window.specs.Calls.{NoPool, Damaged, BuildsTo, Valued}
-use Rattle.window.specs.Layout.{Counted, Stands}
+use Rattle.window.specs.Calls.{BuildsTo, Valued}
+use Rattle.window.specs.Layout.{Counted}
 use Rattle.order.specs.declared.answer.Answer.{Answer}
 use Rattle.order.specs.declared.answer.Answer.TheVariants.{Done}
 use Rattle.window.proofs.Pinned.{Likely, words_stable, sized, cases}

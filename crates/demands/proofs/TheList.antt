@@ -1,16 +1,14 @@
 -- Demand 2. For a user: ask the window anything, and the answer is that of a plain list of bits; change it, and its marks are the list's. The one
 -- answer that a list would not give is Full, and then nothing has changed.
-use Prim.Native.Nat.{ℕ, ◌%◌, ◌≤◌, ◌<◌}
+use Prim.Native.Nat.{ℕ, ◌%◌}
 use native.Mathlib.Omega.{arith}
-use mathlib.Core.Path.{◌≡◌, refl, sym, ap, ap₂, ◌∙◌}
-use mathlib.Core.Bool.{Bool, true, false}
+use mathlib.Core.Path.{◌≡◌, refl, sym, ap, ◌∙◌}
+use mathlib.Core.Bool.{true, false}
 use mathlib.Core.List.{List, [], ◌∷◌}
-use mathlib.Core.Logic.{◌⊎◌, inl, inr}
-use mathlib.Core.Option.{Option, none, some}
+use mathlib.Core.Logic.{inl, inr}
 use lib.Dec.{eqb}
 use borrow.Author.Tests.{eqb-true, eqb-false}
 use lib.ListN.{length}
-use Rattle.model.specs.Marks as Marks
 use Rattle.model.specs.Pool.{Pool}
 use Rattle.model.specs.Tree.{marks}
 use Rattle.model.proofs.Cases.{by_test}
@@ -20,7 +18,6 @@ use Rattle.serve.specs.Orders as Serve
 use Rattle.order.specs.Asked.{Asked, asks}
 use Rattle.order.specs.Plain.{list_answer, list_after}
 use Rattle.run.specs.Orders.{orders_of, no_room, answer, after, answers, after_all, answer_words, list_after_all, list_answers}
-use Rattle.order.specs.declared.answer.Answer.{Answer}
 use Rattle.order.specs.declared.answer.Answer.TheVariants.{Full}
 use Rattle.demands.specs.Following.{Follows, NoneFull, carried_out}
 use Rattle.demands.specs.History.{log}

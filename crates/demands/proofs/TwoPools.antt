@@ -1,25 +1,25 @@
 -- Demand 3, two pools. For a user: a small pool and a large one that are built from the same marks and given the same orders answer alike, order by
 -- order; or the first answer that differs is Full, from the smaller. The size of a pool is told by nothing else.
-use Prim.Native.Nat.{ℕ, ◌%◌, ◌≤◌, ◌<◌}
+use Prim.Native.Nat.{ℕ, ◌%◌, ◌≤◌}
 use native.Mathlib.Omega.{arith}
 use mathlib.Core.Path.{◌≡◌, refl, sym, ap, ◌∙◌}
 use mathlib.Core.Bool.{Bool, true, false}
 use mathlib.Core.List.{List, [], ◌∷◌}
-use mathlib.Core.Logic.{◌⊎◌, inl, inr}
-use mathlib.Core.Option.{Option, none, some}
+use mathlib.Core.Logic.{inl, inr}
+use mathlib.Core.Option.{none, some}
 use lib.Dec.{leb, ltb}
 use lib.ListN.{length}
 use Rattle.model.specs.Pool as Pool
 use Rattle.model.specs.Pool.{Pool, two_free}
 use Rattle.model.specs.Tree.{marks}
-use Rattle.model.proofs.Cases.{by_leb, by_ltb, by_test}
+use Rattle.model.proofs.Cases.{by_leb, by_ltb}
 use Rattle.model.proofs.Content.{size_marks}
 use Rattle.model.proofs.TwoPools.{Wider, Steps, alike, both_full, one_full, build_wider, insert_wider, remove_wider}
 use Rattle.order.specs.Answer.{code, value}
 use Rattle.serve.specs.Orders as Serve
 use Rattle.order.specs.Asked.{Asked, inserting, removing, accessing, ranking, selecting, quiet, unknown, asks}
 use Rattle.order.specs.Plain.{in_range, list_answer}
-use Rattle.run.specs.Orders.{no_room, orders_of, answer, after, answers, answer_words}
+use Rattle.run.specs.Orders.{orders_of, answer, after, answers, answer_words}
 use Rattle.order.specs.declared.answer.Answer.{Answer}
 use Rattle.order.specs.declared.answer.Answer.TheVariants.{Done, Full}
 use Rattle.demands.specs.Following.{AgreeOrFull}

@@ -1,5 +1,5 @@
 -- What is said of a whole log, the orders with their answers, one after the other.
-use Rattle.std.specs.Prelude.{ℕ, zero, suc, ◌+◌, ◌≡◌, Bool, true, false, ◌&&◌, List, [], ◌∷◌, ◌⊎◌, eqb}
+use Rattle.std.specs.Prelude.{ℕ, ◌+◌, ◌≡◌, Bool, true, false, ◌&&◌, List, [], ◌∷◌, ◌⊎◌, eqb}
 use Rattle.order.specs.Answer.{code, value}
 use Rattle.order.specs.Plain.{list_answer, list_after}
 use Rattle.demands.specs.History.{Entry, asked}

@@ -1,6 +1,6 @@
 -- A pool that stands, with the trailer that was read: what an order may assume of its nodes, and that the pool as it is
 -- afterwards stands in the words that are left.
-use Prim.Native.Nat.{ℕ, suc, ◌+◌, ◌-◌, ◌*◌, ◌^◌, ◌≤◌, ◌<◌}
+use Prim.Native.Nat.{ℕ, suc, ◌-◌, ◌*◌, ◌^◌, ◌≤◌, ◌<◌}
 use native.Mathlib.Omega.{arith}
 use borrow.Rule.Slice.PartMut.{put_mid}
 use mathlib.Core.Path.{◌≡◌, sym, ap, ◌∙◌}

@@ -1,6 +1,6 @@
 -- The contract of `run` determines its answer, the pool's words afterwards and the output. The law speaks of the contract as the check reads it
 -- off the source.
-use Prim.Native.Nat.{ℕ, ◌*◌, ◌%◌, ◌≤◌, ◌<◌}
+use Prim.Native.Nat.{ℕ, ◌*◌, ◌%◌, ◌≤◌}
 use native.Mathlib.Omega.{arith}
 use mathlib.Core.Path.{◌≡◌, sym, ◌∙◌}
 use mathlib.Core.List.{List}

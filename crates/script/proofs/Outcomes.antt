@@ -1,16 +1,14 @@
 -- What was done, and how it was told, makes what was played; and what a line was read as is what it asks for.
-use Prim.Native.Nat.{ℕ, ◌-◌, ◌≤◌}
+use Prim.Native.Nat.{ℕ, ◌≤◌}
 use native.Mathlib.Omega.{arith}
 use mathlib.Core.Path.{◌≡◌, refl, ap, ap₂, ◌∙◌}
 use mathlib.Core.List.{List, []}
 use mathlib.Core.Option.{none, some}
 use lib.ListN.{length, take}
-use Rattle.model.specs.Pool as Pool
 use Rattle.model.proofs.Cases.{by_leb}
 use Rattle.order.specs.Answer.{code, value}
 use Rattle.window.specs.Calls.{Valued}
 use Rattle.order.specs.Asked.{Asked, asks}
-use Rattle.run.specs.Orders.{answer}
 use Rattle.order.specs.declared.answer.Answer.{Answer}
 use Rattle.order.specs.declared.answer.Answer.TheVariants.{Malformed}
 use Rattle.window.proofs.Pinned.{cases}
@@ -19,7 +17,7 @@ use Rattle.grammar.specs.declared.reading.Line.TheVariants.{Pool as Line_as_Pool
 use Rattle.grammar.specs.declared.reading.Load.{Load}
 use Rattle.grammar.specs.declared.reading.Order.{Order}
 use Rattle.text.specs.Text.{over}
-use Rattle.script.specs.Prints.{State, answered, damaged, leaves, line_text, says, shown}
+use Rattle.script.specs.Prints.{State, answered, leaves, line_text, says, shown}
 use Rattle.script.specs.Playing.{desk, Keeps, Played}
 use Rattle.script.proofs.Effects.{Did, Ordered, dump_words}
 

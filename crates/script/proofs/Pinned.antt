@@ -1,13 +1,12 @@
 -- A line's contract determines where the next line begins, the pool's nodes, how many bytes were written, and each word
 -- and each byte: two results that it allows are equal. The law speaks of the contract as the check reads it off the
 -- source.
-use Prim.Native.Nat.{ℕ, ◌+◌, ◌≤◌}
+use Prim.Native.Nat.{ℕ, ◌≤◌}
 use native.Mathlib.Omega.{arith}
 use mathlib.Core.Path.{◌≡◌, sym, ap, ap₂, ◌∙◌}
 use mathlib.Core.List.{List, ◌++◌}
 use mathlib.Core.Option.{Option}
 use lib.ListN.{length, take, drop, length-drop, take-append-drop}
-use Rattle.model.specs.Pool as Pool
 use Rattle.model.specs.Pool.{Pool}
 use Rattle.model.proofs.Cases.{by_leb, by_ltb}
 use Rattle.window.proofs.Pinned.{Likely, number_stable, one_layout, words_stable}

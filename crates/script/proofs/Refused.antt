@@ -1,18 +1,15 @@
 -- A line that is not answered 0 changes nothing: by its kind, as an order, a build and a new pool do.
-use Prim.Native.Nat.{ℕ, ◌*◌, ◌≤◌, ◌<◌}
-use native.Mathlib.Omega.{arith}
+use Prim.Native.Nat.{ℕ, ◌*◌}
 use mathlib.Core.Path.{◌≡◌, refl, ap}
-use mathlib.Core.Bool.{true, false}
 use mathlib.Core.List.{List}
 use mathlib.Core.Option.{Option, none, some}
-use lib.Dec.{leb}
 use lib.ListN.{length, take}
 use Rattle.model.specs.Pool as Pool
 use Rattle.model.specs.Pool.{Pool}
 use Rattle.model.specs.Word.{marks_of}
 use Rattle.model.proofs.Cases.{by_leb, by_test}
 use Rattle.order.specs.Answer.{code}
-use Rattle.grammar.specs.Lines.{Wanted, dumping, loading, ordering, pooling}
+use Rattle.grammar.specs.Lines.{dumping, loading, ordering, pooling}
 use Rattle.demands.proofs.Refusals.{refused_changes_nothing}
 use Rattle.script.specs.Prints.{State, answered, built, damaged, holding, leaves, left_by, load_answer, loaded, nothing, now_holding, sized}
 use Rattle.script.specs.Promises.{RefusedLineChangesNoWord, RefusedLineLeavesAll}

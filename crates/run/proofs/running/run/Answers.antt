@@ -1,7 +1,6 @@
 -- The tests in their sequence; where a pool stands, all the orders are served. Assumes nothing.
 use Prim.Native.Nat.{◌*◌, ◌%◌, ◌≤◌}
 use native.Mathlib.Omega.{arith}
-use borrow.Author.Rules.{rules}
 use mathlib.Core.Path.{◌≡◌}
 use lib.ListN.{length}
 use Rattle.model.specs.Pool.{Pool}
@@ -33,10 +32,10 @@ pub serve_all-requires : goal.serve_all-requires
 serve_all-requires c =
     let whole : length c.args.orders.now % 3 ≡ 0 = omega (arith, c.if-orders-ne0.false) in
     let standing :
-        (p : Pool) × Stands c.args.pool.now
-        c.nodes_of-n.result p = let j = rw c.in-Stands.is at c.judged.ensures in (j.0, j.1) in
+    (p : Pool) × Stands c.args.pool.now
+    c.nodes_of-n.result p = let j = rw c.in-Stands.is at c.judged.ensures in (j.0, j.1) in
     let room :
-        2 * order_count c.args.orders.now ≤ length c.args.out.now = omega (arith, c.if-out-count.false) in
+    2 * order_count c.args.orders.now ≤ length c.args.out.now = omega (arith, c.if-out-count.false) in
     let p = standing in
     (p.0, p.1, omega (arith, whole), omega (arith, room))
 
@@ -44,11 +43,11 @@ pub returns-in-Stands : goal.returns-in-Stands
 returns-in-Stands c =
     let whole : length c.args.orders.now % 3 ≡ 0 = omega (arith, c.if-orders-ne0.false) in
     let standing :
-        (p : Pool) × Stands c.args.pool.now
-        c.nodes_of-n.result p = let j = rw c.in-Stands.is at c.judged.ensures in (j.0, j.1) in
+    (p : Pool) × Stands c.args.pool.now
+    c.nodes_of-n.result p = let j = rw c.in-Stands.is at c.judged.ensures in (j.0, j.1) in
     let counted : Counted c.args.pool.now c.nodes_of-n.result = c.nodes_of-n.ensures.yes (omega (arith, c.if-n-eq0.false)) in
     let room :
-        2 * order_count c.args.orders.now ≤ length c.args.out.now = omega (arith, c.if-out-count.false) in
+    2 * order_count c.args.orders.now ≤ length c.args.out.now = omega (arith, c.if-out-count.false) in
     let p = standing in
     served_ran _ _ _ _ (counted) (whole) (room) p.0 p.1 c.serve_all.ensures
 
@@ -57,6 +56,6 @@ returns-in-Damaged c =
     let whole : length c.args.orders.now % 3 ≡ 0 = omega (arith, c.if-orders-ne0.false) in
     let counted : Counted c.args.pool.now c.nodes_of-n.result = c.nodes_of-n.ensures.yes (omega (arith, c.if-n-eq0.false)) in
     let room :
-        2 * order_count c.args.orders.now ≤ length c.args.out.now = omega (arith, c.if-out-count.false) in
+    2 * order_count c.args.orders.now ≤ length c.args.out.now = omega (arith, c.if-out-count.false) in
     damaged_ran _ _ _ _ (counted) (whole) (room)
     (rw c.in-Damaged.is at c.judged.ensures)

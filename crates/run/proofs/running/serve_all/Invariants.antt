@@ -1,11 +1,8 @@
 -- What the loop keeps, and the measure that falls.
 use Prim.Native.Nat.{◌-◌, ◌≤◌}
-use native.Mathlib.Omega.{arith}
-use mathlib.Core.Path.{◌≡◌, sym, ◌∙◌}
-use lib.ListN.{length, length-set}
 use Rattle.model.specs.Pool.{Pool}
 use Rattle.window.specs.Layout.{Stands}
-use Rattle.run.proofs.OneByOne.{Reached, reached_none, reached_length, reached_more, reached_all}
+use Rattle.run.proofs.OneByOne.{Reached}
 use Rattle.run.proofs.running.serve_all.Given as goal
 
 abbrev pub invariant-loop-i : goal.invariant-loop-i

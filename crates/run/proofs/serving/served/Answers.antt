@@ -1,12 +1,9 @@
 -- The trailer tells what the order may assume; what comes back is put into it where the marks are not as many as before. Assumes nothing.
 use native.Mathlib.Omega.{arith}
-use borrow.Author.Rules.{rules}
 use borrow.Author.Tests.{leb-true}
-use mathlib.Core.Path.{◌≡◌, refl}
+use mathlib.Core.Path.{refl}
 use lib.ListN.{length-append, length-drop, length-take}
-use Rattle.model.specs.Pool.{Pool, two_free}
-use Rattle.order.specs.Asked.{asks}
-use Rattle.serve.specs.Serving.{Serves}
+use Rattle.model.specs.Pool.{Pool}
 use Rattle.window.specs.Layout.{Stands}
 use Rattle.run.proofs.Altered.{Known, known, ruled, served_moved, served_still, to_serve}
 use Rattle.window.proofs.OneState.{nodes_length}
@@ -15,7 +12,7 @@ use Rattle.run.proofs.serving.served.Goals as goal
 pub serve-done-requires : goal.serve-done-requires
 serve-done-requires c =
     let told : (p : Pool) → let a = c.args in Stands a.pool.now a.n p
-        → Known a.n p c.trailer_of-trailer.result = λ p s. known s c.trailer_of-trailer.result c.trailer_of-trailer.ensures in
+    → Known a.n p c.trailer_of-trailer.result = λ p s. known s c.trailer_of-trailer.result c.trailer_of-trailer.ensures in
     let s = c.requires in
     let k = told s.0 s.1 in
     (c.args.n, s.0, to_serve s.1 _ _ k (λ yes. omega (arith, leb-true)))
@@ -23,7 +20,7 @@ serve-done-requires c =
 pub returns-then-done-trailer : goal.returns-then-done-trailer
 returns-then-done-trailer c =
     let told : (p : Pool) → let a = c.args in Stands a.pool.now a.n p
-        → Known a.n p c.trailer_of-trailer.result = λ p s. known s c.trailer_of-trailer.result c.trailer_of-trailer.ensures in
+    → Known a.n p c.trailer_of-trailer.result = λ p s. known s c.trailer_of-trailer.result c.trailer_of-trailer.ensures in
     λ p s.
     let k = told p s in
     let x = c.serve-done.ensures _ p (to_serve s _ _ k (λ yes. omega (arith, leb-true))) in
@@ -32,7 +29,7 @@ returns-then-done-trailer c =
 pub set_trailer-requires : goal.set_trailer-requires
 set_trailer-requires c =
     let told : (p : Pool) → let a = c.args in Stands a.pool.now a.n p
-        → Known a.n p c.trailer_of-trailer.result = λ p s. known s c.trailer_of-trailer.result c.trailer_of-trailer.ensures in
+    → Known a.n p c.trailer_of-trailer.result = λ p s. known s c.trailer_of-trailer.result c.trailer_of-trailer.ensures in
     let s = c.requires.1 in
     let k = told _ s in
     let x = c.serve-done.ensures _ _ (to_serve s _ _ k (λ yes. omega (arith, leb-true))) in
@@ -42,7 +39,7 @@ set_trailer-requires c =
 pub returns : goal.returns
 returns c =
     let told : (p : Pool) → let a = c.args in Stands a.pool.now a.n p
-        → Known a.n p c.trailer_of-trailer.result = λ p s. known s c.trailer_of-trailer.result c.trailer_of-trailer.ensures in
+    → Known a.n p c.trailer_of-trailer.result = λ p s. known s c.trailer_of-trailer.result c.trailer_of-trailer.ensures in
     λ p s.
     let k = told p s in
     let x = c.serve-done.ensures _ p (to_serve s _ _ k (λ yes. omega (arith, leb-true))) in

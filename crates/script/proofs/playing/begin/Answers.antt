@@ -1,6 +1,5 @@
 -- A pool of so many nodes is built empty, or the number is refused. Assumes nothing.
 use native.Mathlib.Omega.{arith}
-use borrow.Author.Rules.{rules}
 use mathlib.Core.Bool.{true}
 use mathlib.Core.List.{[], ◌++◌}
 use mathlib.Core.Path.{◌≡◌, sym, ◌∙◌}

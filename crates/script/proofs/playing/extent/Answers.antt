@@ -1,6 +1,5 @@
 -- The words of a pool, by the two tests. Assumes nothing.
 use native.Mathlib.Omega.{arith}
-use borrow.Author.Rules.{rules}
 use mathlib.Core.Path.{sym}
 use Rattle.script.proofs.Effects.{bounds_sized, extent_none, extent_sized, unsized}
 use Rattle.script.proofs.playing.extent.Goals as goal

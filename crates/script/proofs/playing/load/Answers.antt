@@ -1,6 +1,5 @@
 -- The window builds, and its answer is told. Assumes nothing.
 use native.Mathlib.Omega.{arith}
-use borrow.Author.Rules.{rules}
 use mathlib.Core.List.{[], ◌++◌}
 use mathlib.Core.Path.{sym}
 use lib.ListN.{drop, take}

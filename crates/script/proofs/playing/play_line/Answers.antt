@@ -1,6 +1,5 @@
 -- What the line was read as is played. Assumes nothing.
 use native.Mathlib.Omega.{arith}
-use borrow.Author.Rules.{rules}
 use Rattle.script.proofs.Outcomes.{dump_read, load_read, malformed_played, malformed_read, order_read, pool_read}
 use Rattle.script.proofs.playing.play_line.Goals as goal
 

@@ -1,5 +1,4 @@
 -- A store is a text of one byte. Assumes nothing.
-use borrow.Author.Rules.{rules}
 use mathlib.Core.Path.{refl, sym}
 use Rattle.text.proofs.Putting.{over_one}
 use Rattle.script.proofs.telling.put_byte.Goals as goal

@@ -1,5 +1,4 @@
 -- An answer is told by its number and its value. Assumes nothing.
-use borrow.Author.Rules.{rules}
 use Rattle.script.proofs.telling.tell.Goals as goal
 
 pub returns : goal.returns
