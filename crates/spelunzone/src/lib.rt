@@ -1,5 +1,5 @@
-// The calls as a C host sees them: words cross as a pointer and a count, and the answer comes back as two words, its
-// number and its value.
+// The calls as a C host sees them: the answer comes back as two words, its number and its value. A C host links them
+// as `spelunzone_c` exports them.
 #![tactic(auto)]
 
 ghost use Rattle.std.specs.Prelude.{◌≡◌};
@@ -27,29 +27,25 @@ fn handed(answer: Answer) -> Reply
     }
 }
 
-#[unsafe(no_mangle)]
-pub extern "C" fn sz_check(pool: &[u64]) -> Reply
+pub fn sz_check(pool: &[u64]) -> Reply
     ensures { Replies (Checked pool.now) result }
 {
     handed(window::check(pool))
 }
 
-#[unsafe(no_mangle)]
-pub extern "C" fn sz_build(pool: &mut [u64], words: &[u64], length: u64) -> Reply
+pub fn sz_build(pool: &mut [u64], words: &[u64], length: u64) -> Reply
     ensures { Replies (λ a. BuildsTo pool.old words.now length a pool.new) result }
 {
     handed(window::build(pool, words, length))
 }
 
-#[unsafe(no_mangle)]
-pub extern "C" fn sz_values(pool: &[u64], out: &mut [u64]) -> Reply
+pub fn sz_values(pool: &[u64], out: &mut [u64]) -> Reply
     ensures { Replies (λ a. Valued pool.now out.old a out.new) result }
 {
     handed(window::values(pool, out))
 }
 
-#[unsafe(no_mangle)]
-pub extern "C" fn sz_run(pool: &mut [u64], orders: &[u64], out: &mut [u64]) -> Reply
+pub fn sz_run(pool: &mut [u64], orders: &[u64], out: &mut [u64]) -> Reply
     ensures { Replies
         (λ a. Ran pool.old orders.now out.old a pool.new
         out.new) result }
