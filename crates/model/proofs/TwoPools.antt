@@ -57,7 +57,8 @@ insert_not_taken i b f g (fork n l r) h e =
 
 -- ---- lists
 
-first_two : (f g : List ℕ) → 2 ≤ length f → (get_or (f ++ g) 0 0 ≡ get_or f 0 0) × (get_or (f ++ g) 1 0 ≡ get_or f 1 0) × (drop 2 (f ++ g) ≡ drop 2 f ++ g)
+first_two : (f g : List ℕ) → 2 ≤ length f → (get_or (f ++ g) 0 0 ≡ get_or f 0 0) × (get_or (f ++ g) 1 0 ≡ get_or f 1 0)
+    × (drop 2 (f ++ g) ≡ drop 2 f ++ g)
 first_two [] g h = absurd (omega arith)
 first_two (a ∷ []) g h = absurd (omega arith)
 first_two (a ∷ b ∷ f) g h = (refl, refl, refl)

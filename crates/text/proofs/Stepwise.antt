@@ -41,7 +41,8 @@ module _ {base k value : ℕ} (bs : List ℕ) (so : Read base bs k value) where
     pub read_not : base ≤ w → none ≡ numeral base bs
     read_not h =
         sym (ap (numeral base) (split_at bs k 0 more)
-        ∙ numeral_not base (take k bs ++ get_or bs k 0 ∷ drop (suc k) bs) (digits_not base (take k bs) (get_or bs k 0) (drop (suc k) bs) (rw next at h)))
+        ∙ numeral_not base (take k bs ++ get_or bs k 0 ∷ drop (suc k) bs)
+        (digits_not base (take k bs) (get_or bs k 0) (drop (suc k) bs) (rw next at h)))
 
     -- one digit more stays a word
     pub read_fits : w < base → base ^ length bs ≤ 2 ^ 64 → value * base + w < 2 ^ 64

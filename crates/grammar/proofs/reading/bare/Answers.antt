@@ -17,7 +17,8 @@ unfolding line_of no_field
 returns-in-Dump c = λ ws. rw c.in-Dump.is
 
 -- every name but two wants a field
-no_line : (n : Name) → ((n ≡ Pool) ⊎ ((n ≡ Load) ⊎ ((n ≡ Insert) ⊎ ((n ≡ Remove) ⊎ ((n ≡ Get) ⊎ ((n ≡ Rank) ⊎ ((n ≡ Select) ⊎ (n ≡ Other)))))))) → line_of n [] ≡ none
+no_line : (n : Name) → ((n ≡ Pool) ⊎ ((n ≡ Load) ⊎ ((n ≡ Insert) ⊎ ((n ≡ Remove) ⊎ ((n ≡ Get) ⊎ ((n ≡ Rank) ⊎ ((n ≡ Select) ⊎ (n ≡ Other))))))))
+    → line_of n [] ≡ none
 unfolding line_of one_number two_numbers load_of
 no_line n (inl e) = rw e
 no_line n (inr (inl e)) = rw e

@@ -17,7 +17,8 @@ after_leaf-requires t c =
 pub overflow_sub-below : goal.overflow_sub-below
 overflow_sub-below t c =
     let parts : let a = c.args in
-    (s : TreeAt a.nodes.now a.n a.levels a.length) → Parts a.nodes.now a.levels a.length c.in-Fork.fork s.tree = λ s. stands_fork s c.leaf_or_fork.ensures c.in-Fork.is in
+    (s : TreeAt a.nodes.now a.n a.levels a.length) → Parts a.nodes.now a.levels a.length c.in-Fork.fork s.tree =
+    λ s. stands_fork s c.leaf_or_fork.ensures c.in-Fork.is in
     let children :
     Parts c.args.nodes.now c.args.levels c.args.length c.in-Fork.fork c.requires.0.tree = parts c.requires.0 in
     (children).level
@@ -25,7 +26,8 @@ overflow_sub-below t c =
 pub after_tree-first-requires : goal.after_tree-first-requires
 after_tree-first-requires t c =
     let parts : let a = c.args in
-    (s : TreeAt a.nodes.now a.n a.levels a.length) → Parts a.nodes.now a.levels a.length c.in-Fork.fork s.tree = λ s. stands_fork s c.leaf_or_fork.ensures c.in-Fork.is in
+    (s : TreeAt a.nodes.now a.n a.levels a.length) → Parts a.nodes.now a.levels a.length c.in-Fork.fork s.tree =
+    λ s. stands_fork s c.leaf_or_fork.ensures c.in-Fork.is in
     let children :
     Parts c.args.nodes.now c.args.levels c.args.length c.in-Fork.fork c.requires.0.tree = parts c.requires.0 in
     let p = c.requires in
@@ -35,7 +37,8 @@ after_tree-first-requires t c =
 pub overflow_sub-length : goal.overflow_sub-length
 overflow_sub-length t c =
     let parts : let a = c.args in
-    (s : TreeAt a.nodes.now a.n a.levels a.length) → Parts a.nodes.now a.levels a.length c.in-Fork.fork s.tree = λ s. stands_fork s c.leaf_or_fork.ensures c.in-Fork.is in
+    (s : TreeAt a.nodes.now a.n a.levels a.length) → Parts a.nodes.now a.levels a.length c.in-Fork.fork s.tree =
+    λ s. stands_fork s c.leaf_or_fork.ensures c.in-Fork.is in
     let children :
     Parts c.args.nodes.now c.args.levels c.args.length c.in-Fork.fork c.requires.0.tree = parts c.requires.0 in
     (children).within
@@ -43,7 +46,8 @@ overflow_sub-length t c =
 pub after_tree-requires : goal.after_tree-requires
 after_tree-requires t c =
     let parts : let a = c.args in
-    (s : TreeAt a.nodes.now a.n a.levels a.length) → Parts a.nodes.now a.levels a.length c.in-Fork.fork s.tree = λ s. stands_fork s c.leaf_or_fork.ensures c.in-Fork.is in
+    (s : TreeAt a.nodes.now a.n a.levels a.length) → Parts a.nodes.now a.levels a.length c.in-Fork.fork s.tree =
+    λ s. stands_fork s c.leaf_or_fork.ensures c.in-Fork.is in
     let children :
     Parts c.args.nodes.now c.args.levels c.args.length c.in-Fork.fork c.requires.0.tree = parts c.requires.0 in
     let p = c.requires in
@@ -58,7 +62,8 @@ returns-in-Leaf t c = λ s.
 pub returns-in-Fork : goal.returns-in-Fork
 returns-in-Fork t c =
     let parts : let a = c.args in
-    (s : TreeAt a.nodes.now a.n a.levels a.length) → Parts a.nodes.now a.levels a.length c.in-Fork.fork s.tree = λ s. stands_fork s c.leaf_or_fork.ensures c.in-Fork.is in
+    (s : TreeAt a.nodes.now a.n a.levels a.length) → Parts a.nodes.now a.levels a.length c.in-Fork.fork s.tree =
+    λ s. stands_fork s c.leaf_or_fork.ensures c.in-Fork.is in
     λ s.
     let q = parts s in
     fork_visited q _ (c.after_tree-first.ensures q.left) (c.after_tree.ensures q.right)

@@ -28,7 +28,8 @@ put_words-last-requires c =
     let kept :
     length c.values.new.out ≡ length c.args.words.now = search rules in
     let two_put :
-    Put 0 (two_text c.as_words-checked.result.code c.as_words-checked.result.value) c.args.out.now c.put_two-at.result c.put_two-at.new.out = record { ends = c.put_two-at.ensures.value ∙ sym (zero-add _); bytes = c.put_two-at.ensures.out_after } in
+    Put 0 (two_text c.as_words-checked.result.code c.as_words-checked.result.value) c.args.out.now c.put_two-at.result c.put_two-at.new.out =
+    record { ends = c.put_two-at.ensures.value ∙ sym (zero-add _); bytes = c.put_two-at.ensures.out_after } in
     let f = few in (
       omega (arith, f, kept, c.requires.1),
       words_room c.as_words-checked.result.code c.as_words-checked.result.value c.as_words-valued.result.value c.args.out.now _ _
@@ -45,7 +46,8 @@ end_line-requires c =
     42 + 17 * length (take c.as_words-valued.result.value c.values.new.out) ≤ length c.args.out.now =
     omega (arith, few, length-take-le c.as_words-valued.result.value c.values.new.out (omega (arith, few, kept, c.requires.1)), c.requires.2) in
     let two_put :
-    Put 0 (two_text c.as_words-checked.result.code c.as_words-checked.result.value) c.args.out.now c.put_two-at.result c.put_two-at.new.out = record { ends = c.put_two-at.ensures.value ∙ sym (zero-add _); bytes = c.put_two-at.ensures.out_after } in
+    Put 0 (two_text c.as_words-checked.result.code c.as_words-checked.result.value) c.args.out.now c.put_two-at.result c.put_two-at.new.out =
+    record { ends = c.put_two-at.ensures.value ∙ sym (zero-add _); bytes = c.put_two-at.ensures.out_after } in
     let words-put :
     Put c.put_two-at.result (words_text (take c.as_words-valued.result.value c.values.new.out)) c.put_two-at.new.out c.put_words-last.result
     c.put_words-last.new.out =
@@ -65,7 +67,8 @@ returns c =
     42 + 17 * length (take c.as_words-valued.result.value c.values.new.out) ≤ length c.args.out.now =
     omega (arith, few, length-take-le c.as_words-valued.result.value c.values.new.out (omega (arith, few, kept, c.requires.1)), c.requires.2) in
     let two_put :
-    Put 0 (two_text c.as_words-checked.result.code c.as_words-checked.result.value) c.args.out.now c.put_two-at.result c.put_two-at.new.out = record { ends = c.put_two-at.ensures.value ∙ sym (zero-add _); bytes = c.put_two-at.ensures.out_after } in
+    Put 0 (two_text c.as_words-checked.result.code c.as_words-checked.result.value) c.args.out.now c.put_two-at.result c.put_two-at.new.out =
+    record { ends = c.put_two-at.ensures.value ∙ sym (zero-add _); bytes = c.put_two-at.ensures.out_after } in
     let words-put :
     Put c.put_two-at.result (words_text (take c.as_words-valued.result.value c.values.new.out)) c.put_two-at.new.out c.put_words-last.result
     c.put_words-last.new.out =

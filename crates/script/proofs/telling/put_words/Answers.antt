@@ -29,7 +29,8 @@ bounds-words-i c =
 pub put_hex-end-requires : goal.put_hex-end-requires
 put_hex-end-requires c =
     let space_put : let l = c.loop-i in
-    Put l.end (32 ∷ []) l.out c.put_byte-next.result c.put_byte-next.new.out = record { ends = c.put_byte-next.ensures.value; bytes = c.put_byte-next.ensures.out_after } in
+    Put l.end (32 ∷ []) l.out c.put_byte-next.result c.put_byte-next.new.out =
+    record { ends = c.put_byte-next.ensures.value; bytes = c.put_byte-next.ensures.out_after } in
     let l = c.loop-i in
     word_room c.args.at l.i c.args.words.now c.args.out.now l.end l.out (omega (arith, c.requires.0)) (omega (arith, c.requires.1))
     l.invariant.1 _ _ (space_put)
@@ -37,7 +38,8 @@ put_hex-end-requires c =
 pub loop-i-preserved : goal.loop-i-preserved
 loop-i-preserved c =
     let space_put : let l = c.loop-i in
-    Put l.end (32 ∷ []) l.out c.put_byte-next.result c.put_byte-next.new.out = record { ends = c.put_byte-next.ensures.value; bytes = c.put_byte-next.ensures.out_after } in
+    Put l.end (32 ∷ []) l.out c.put_byte-next.result c.put_byte-next.new.out =
+    record { ends = c.put_byte-next.ensures.value; bytes = c.put_byte-next.ensures.out_after } in
     let l = c.loop-i in (
       omega arith,
       rw (add-one l.i)
@@ -57,4 +59,9 @@ returns c =
     words_text_length (take c.loop-i.i c.args.words.now)
     ∙ omega (arith, length-take-le c.loop-i.i c.args.words.now (omega (arith, c.requires.0, c.loop-i.invariant.0))) in
     let l = c.loop-i in
-    let all : l.i ≡ c.args.count = omega arith in record { value = l.invariant.1.ends ∙ omega (arith, so-long); out_after = l.invariant.1.bytes ∙ ap (λ (k : ℕ). over c.args.at (words_text (take k c.args.words.now)) c.args.out.now) all }
+    let all : l.i ≡ c.args.count = omega arith in
+    record {
+      value = l.invariant.1.ends ∙ omega (arith, so-long);
+      out_after = l.invariant.1.bytes
+          ∙ ap (λ (k : ℕ). over c.args.at (words_text (take k c.args.words.now)) c.args.out.now) all;
+    }

@@ -9,7 +9,8 @@ pub returns : goal.returns
 unfolding sums_of
 returns c =
     let in-half :
-    (k : ℕ) → InField c.args.value k 8 c.args.byte → InField c.args.value k 4 c.halved-half.result = λ k f. c.halved-half.ensures _ k (rw c.requires.0 (held_below 4 16 f (omega arith))) f in
+    (k : ℕ) → InField c.args.value k 8 c.args.byte → InField c.args.value k 4 c.halved-half.result =
+    λ k f. c.halved-half.ensures _ k (rw c.requires.0 (held_below 4 16 f (omega arith))) f in
     let in_pair :
     (k : ℕ) → InField c.args.value k 8 c.args.byte → InField c.args.value k 2 c.halved-pair.result = λ k f.
     let h = in-half k f in
@@ -20,7 +21,8 @@ pub overflow_shr-sums-2 : goal.overflow_shr-sums-2
 unfolding sums_of
 overflow_shr-sums-2 c =
     let in-half :
-    (k : ℕ) → InField c.args.value k 8 c.args.byte → InField c.args.value k 4 c.halved-half.result = λ k f. c.halved-half.ensures _ k (rw c.requires.0 (held_below 4 16 f (omega arith))) f in
+    (k : ℕ) → InField c.args.value k 8 c.args.byte → InField c.args.value k 4 c.halved-half.result =
+    λ k f. c.halved-half.ensures _ k (rw c.requires.0 (held_below 4 16 f (omega arith))) f in
     let half-inside : c.halved-half.result.pos + 4 ≤ 64 = let p = c.requires.1 in omega (arith, in-half p.0 p.1) in
     omega (arith, half-inside)
 
@@ -28,7 +30,8 @@ pub halved-pair-requires : goal.halved-pair-requires
 unfolding sums_of
 halved-pair-requires c =
     let in-half :
-    (k : ℕ) → InField c.args.value k 8 c.args.byte → InField c.args.value k 4 c.halved-half.result = λ k f. c.halved-half.ensures _ k (rw c.requires.0 (held_below 4 16 f (omega arith))) f in
+    (k : ℕ) → InField c.args.value k 8 c.args.byte → InField c.args.value k 4 c.halved-half.result =
+    λ k f. c.halved-half.ensures _ k (rw c.requires.0 (held_below 4 16 f (omega arith))) f in
     let half-inside : c.halved-half.result.pos + 4 ≤ 64 = let p = c.requires.1 in omega (arith, in-half p.0 p.1) in
     omega (arith, half-inside)
 
@@ -36,7 +39,8 @@ pub overflow_shr-value : goal.overflow_shr-value
 unfolding sums_of
 overflow_shr-value c =
     let in-half :
-    (k : ℕ) → InField c.args.value k 8 c.args.byte → InField c.args.value k 4 c.halved-half.result = λ k f. c.halved-half.ensures _ k (rw c.requires.0 (held_below 4 16 f (omega arith))) f in
+    (k : ℕ) → InField c.args.value k 8 c.args.byte → InField c.args.value k 4 c.halved-half.result =
+    λ k f. c.halved-half.ensures _ k (rw c.requires.0 (held_below 4 16 f (omega arith))) f in
     let in_pair :
     (k : ℕ) → InField c.args.value k 8 c.args.byte → InField c.args.value k 2 c.halved-pair.result = λ k f.
     let h = in-half k f in
@@ -48,7 +52,8 @@ pub halved-last-requires : goal.halved-last-requires
 unfolding sums_of
 halved-last-requires c =
     let in-half :
-    (k : ℕ) → InField c.args.value k 8 c.args.byte → InField c.args.value k 4 c.halved-half.result = λ k f. c.halved-half.ensures _ k (rw c.requires.0 (held_below 4 16 f (omega arith))) f in
+    (k : ℕ) → InField c.args.value k 8 c.args.byte → InField c.args.value k 4 c.halved-half.result =
+    λ k f. c.halved-half.ensures _ k (rw c.requires.0 (held_below 4 16 f (omega arith))) f in
     let in_pair :
     (k : ℕ) → InField c.args.value k 8 c.args.byte → InField c.args.value k 2 c.halved-pair.result = λ k f.
     let h = in-half k f in

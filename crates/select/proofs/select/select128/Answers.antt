@@ -21,7 +21,8 @@ returns-then-k-in_low c =
 
 pub overflow_add-result : goal.overflow_add-result
 overflow_add-result c =
-    let below : (p : ℕ) → c.select64-2.result ≡ At p → p < 64 = λ p e. rw (bits_length 64 c.args.high) at (placed_below _ _ _ p (sym e ∙ c.select64-2.ensures)) in
+    let below : (p : ℕ) → c.select64-2.result ≡ At p → p < 64 =
+    λ p e. rw (bits_length 64 c.args.high) at (placed_below _ _ _ p (sym e ∙ c.select64-2.ensures)) in
     omega (arith, below _ c.in-At.is)
 
 pub returns-in-At : goal.returns-in-At

@@ -17,11 +17,13 @@ select-requires c = let g = c.requires in (g.0, g.1.rooted, g.1.total, omega (ar
 pub returns-in-At : goal.returns-in-At
 returns-in-At c =
     let found : (t : Tree) → let a = c.args in Grown a.nodes.now a.held t
-    → told_place c.select.result ≡ list_answer (selecting a.k a.bit) (marks t) = λ t g. select_done _ _ _ _ (omega (arith, c.if-k-eq0.false)) (c.select.ensures t g.rooted g.total) in
+    → told_place c.select.result ≡ list_answer (selecting a.k a.bit) (marks t) =
+    λ t g. select_done _ _ _ _ (omega (arith, c.if-k-eq0.false)) (c.select.ensures t g.rooted g.total) in
     λ t g. ap told_place (sym c.in-At.is) ∙ found t g
 
 pub returns-in-TooFew : goal.returns-in-TooFew
 returns-in-TooFew c =
     let found : (t : Tree) → let a = c.args in Grown a.nodes.now a.held t
-    → told_place c.select.result ≡ list_answer (selecting a.k a.bit) (marks t) = λ t g. select_done _ _ _ _ (omega (arith, c.if-k-eq0.false)) (c.select.ensures t g.rooted g.total) in
+    → told_place c.select.result ≡ list_answer (selecting a.k a.bit) (marks t) =
+    λ t g. select_done _ _ _ _ (omega (arith, c.if-k-eq0.false)) (c.select.ensures t g.rooted g.total) in
     λ t g. ap told_place (sym c.in-TooFew.is) ∙ found t g

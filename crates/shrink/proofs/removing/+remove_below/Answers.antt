@@ -29,14 +29,16 @@ pub overflow_sub-below : goal.overflow_sub-below
 overflow_sub-below t c =
     let read : node_at c.args.nodes.now c.args.n ≡ Node.Fork c.in-Fork.fork = sym c.leaf_or_fork.ensures ∙ ap as_node c.in-Fork.is in
     let step : let a = c.args in
-    Stepped a.nodes.now a.n a.length a.index c.in-Fork.fork c.toward-step.result = record { read = read; toward = record { to_left = c.toward-step.ensures.value; to_right = c.toward-step.ensures.value_2 } } in
+    Stepped a.nodes.now a.n a.length a.index c.in-Fork.fork c.toward-step.result =
+    record { read = read; toward = record { to_left = c.toward-step.ensures.value; to_right = c.toward-step.ensures.value_2 } } in
     fork_level c.requires.at.site.rooted (step).read
 
 pub remove_below-change-requires : goal.remove_below-change-requires
 remove_below-change-requires t c =
     let read : node_at c.args.nodes.now c.args.n ≡ Node.Fork c.in-Fork.fork = sym c.leaf_or_fork.ensures ∙ ap as_node c.in-Fork.is in
     let step : let a = c.args in
-    Stepped a.nodes.now a.n a.length a.index c.in-Fork.fork c.toward-step.result = record { read = read; toward = record { to_left = c.toward-step.ensures.value; to_right = c.toward-step.ensures.value_2 } } in
+    Stepped a.nodes.now a.n a.length a.index c.in-Fork.fork c.toward-step.result =
+    record { read = read; toward = record { to_left = c.toward-step.ensures.value; to_right = c.toward-step.ensures.value_2 } } in
     let pre = c.requires in
     (omega (arith, c.decreases, fork_level pre.at.site.rooted (step).read), to_child (step) pre)
 
@@ -44,9 +46,12 @@ pub uncount-requires : goal.uncount-requires
 uncount-requires t c =
     let read : node_at c.args.nodes.now c.args.n ≡ Node.Fork c.in-Fork.fork = sym c.leaf_or_fork.ensures ∙ ap as_node c.in-Fork.is in
     let step : let a = c.args in
-    Stepped a.nodes.now a.n a.length a.index c.in-Fork.fork c.toward-step.result = record { read = read; toward = record { to_left = c.toward-step.ensures.value; to_right = c.toward-step.ensures.value_2 } } in
-    let done : (b : (ToRemove c.args.nodes.now c.args.n c.args.levels c.args.head.now c.args.length c.args.index)) → let call = c.remove_below-change in
-    Gone (to_child (step) b) call.new.nodes call.new.head (held call.result) call.new.bit = λ b. gone_held c.remove_below-change.result (record { sfits = c.remove_below-change.type_inv })
+    Stepped a.nodes.now a.n a.length a.index c.in-Fork.fork c.toward-step.result =
+    record { read = read; toward = record { to_left = c.toward-step.ensures.value; to_right = c.toward-step.ensures.value_2 } } in
+    let done : (b : (ToRemove c.args.nodes.now c.args.n c.args.levels c.args.head.now c.args.length c.args.index)) → let call =
+    c.remove_below-change in
+    Gone (to_child (step) b) call.new.nodes call.new.head (held call.result) call.new.bit =
+    λ b. gone_held c.remove_below-change.result (record { sfits = c.remove_below-change.type_inv })
     (c.remove_below-change.ensures (to_child (step) b)) in
     let b = c.requires in
     to_uncount (step) b (done b)
@@ -60,9 +65,12 @@ pub mend-requires : goal.mend-requires
 mend-requires t c =
     let read : node_at c.args.nodes.now c.args.n ≡ Node.Fork c.in-Fork.fork = sym c.leaf_or_fork.ensures ∙ ap as_node c.in-Fork.is in
     let step : let a = c.args in
-    Stepped a.nodes.now a.n a.length a.index c.in-Fork.fork c.toward-step.result = record { read = read; toward = record { to_left = c.toward-step.ensures.value; to_right = c.toward-step.ensures.value_2 } } in
-    let done : (b : (ToRemove c.args.nodes.now c.args.n c.args.levels c.args.head.now c.args.length c.args.index)) → let call = c.remove_below-change in
-    Gone (to_child (step) b) call.new.nodes call.new.head (held call.result) call.new.bit = λ b. gone_held c.remove_below-change.result (record { sfits = c.remove_below-change.type_inv })
+    Stepped a.nodes.now a.n a.length a.index c.in-Fork.fork c.toward-step.result =
+    record { read = read; toward = record { to_left = c.toward-step.ensures.value; to_right = c.toward-step.ensures.value_2 } } in
+    let done : (b : (ToRemove c.args.nodes.now c.args.n c.args.levels c.args.head.now c.args.length c.args.index)) → let call =
+    c.remove_below-change in
+    Gone (to_child (step) b) call.new.nodes call.new.head (held call.result) call.new.bit =
+    λ b. gone_held c.remove_below-change.result (record { sfits = c.remove_below-change.type_inv })
     (c.remove_below-change.ensures (to_child (step) b)) in
     let b = c.requires in
     to_mend (step) b (done b) c.uncount.ensures c.if-step-le-LEAF_LEAST.true
@@ -71,9 +79,12 @@ pub returns-then-step-le-LEAF_LEAST : goal.returns-then-step-le-LEAF_LEAST
 returns-then-step-le-LEAF_LEAST t c =
     let read : node_at c.args.nodes.now c.args.n ≡ Node.Fork c.in-Fork.fork = sym c.leaf_or_fork.ensures ∙ ap as_node c.in-Fork.is in
     let step : let a = c.args in
-    Stepped a.nodes.now a.n a.length a.index c.in-Fork.fork c.toward-step.result = record { read = read; toward = record { to_left = c.toward-step.ensures.value; to_right = c.toward-step.ensures.value_2 } } in
-    let done : (b : (ToRemove c.args.nodes.now c.args.n c.args.levels c.args.head.now c.args.length c.args.index)) → let call = c.remove_below-change in
-    Gone (to_child (step) b) call.new.nodes call.new.head (held call.result) call.new.bit = λ b. gone_held c.remove_below-change.result (record { sfits = c.remove_below-change.type_inv })
+    Stepped a.nodes.now a.n a.length a.index c.in-Fork.fork c.toward-step.result =
+    record { read = read; toward = record { to_left = c.toward-step.ensures.value; to_right = c.toward-step.ensures.value_2 } } in
+    let done : (b : (ToRemove c.args.nodes.now c.args.n c.args.levels c.args.head.now c.args.length c.args.index)) → let call =
+    c.remove_below-change in
+    Gone (to_child (step) b) call.new.nodes call.new.head (held call.result) call.new.bit =
+    λ b. gone_held c.remove_below-change.result (record { sfits = c.remove_below-change.type_inv })
     (c.remove_below-change.ensures (to_child (step) b)) in
     λ b.
     let m = c.mend in
@@ -87,9 +98,12 @@ pub returns-then-change-eq0 : goal.returns-then-change-eq0
 returns-then-change-eq0 t c =
     let read : node_at c.args.nodes.now c.args.n ≡ Node.Fork c.in-Fork.fork = sym c.leaf_or_fork.ensures ∙ ap as_node c.in-Fork.is in
     let step : let a = c.args in
-    Stepped a.nodes.now a.n a.length a.index c.in-Fork.fork c.toward-step.result = record { read = read; toward = record { to_left = c.toward-step.ensures.value; to_right = c.toward-step.ensures.value_2 } } in
-    let done : (b : (ToRemove c.args.nodes.now c.args.n c.args.levels c.args.head.now c.args.length c.args.index)) → let call = c.remove_below-change in
-    Gone (to_child (step) b) call.new.nodes call.new.head (held call.result) call.new.bit = λ b. gone_held c.remove_below-change.result (record { sfits = c.remove_below-change.type_inv })
+    Stepped a.nodes.now a.n a.length a.index c.in-Fork.fork c.toward-step.result =
+    record { read = read; toward = record { to_left = c.toward-step.ensures.value; to_right = c.toward-step.ensures.value_2 } } in
+    let done : (b : (ToRemove c.args.nodes.now c.args.n c.args.levels c.args.head.now c.args.length c.args.index)) → let call =
+    c.remove_below-change in
+    Gone (to_child (step) b) call.new.nodes call.new.head (held call.result) call.new.bit =
+    λ b. gone_held c.remove_below-change.result (record { sfits = c.remove_below-change.type_inv })
     (c.remove_below-change.ensures (to_child (step) b)) in
     λ b.
     remove_level (step) b (done b) c.uncount.ensures c.if-step-le-LEAF_LEAST.false (ap (to_z w64) c.if-change-eq0.true)
@@ -98,9 +112,12 @@ pub child_changed-requires : goal.child_changed-requires
 child_changed-requires t c =
     let read : node_at c.args.nodes.now c.args.n ≡ Node.Fork c.in-Fork.fork = sym c.leaf_or_fork.ensures ∙ ap as_node c.in-Fork.is in
     let step : let a = c.args in
-    Stepped a.nodes.now a.n a.length a.index c.in-Fork.fork c.toward-step.result = record { read = read; toward = record { to_left = c.toward-step.ensures.value; to_right = c.toward-step.ensures.value_2 } } in
-    let done : (b : (ToRemove c.args.nodes.now c.args.n c.args.levels c.args.head.now c.args.length c.args.index)) → let call = c.remove_below-change in
-    Gone (to_child (step) b) call.new.nodes call.new.head (held call.result) call.new.bit = λ b. gone_held c.remove_below-change.result (record { sfits = c.remove_below-change.type_inv })
+    Stepped a.nodes.now a.n a.length a.index c.in-Fork.fork c.toward-step.result =
+    record { read = read; toward = record { to_left = c.toward-step.ensures.value; to_right = c.toward-step.ensures.value_2 } } in
+    let done : (b : (ToRemove c.args.nodes.now c.args.n c.args.levels c.args.head.now c.args.length c.args.index)) → let call =
+    c.remove_below-change in
+    Gone (to_child (step) b) call.new.nodes call.new.head (held call.result) call.new.bit =
+    λ b. gone_held c.remove_below-change.result (record { sfits = c.remove_below-change.type_inv })
     (c.remove_below-change.ensures (to_child (step) b)) in
     let b = c.requires in
     remove_stale (step) b (done b) c.uncount.ensures c.if-step-le-LEAF_LEAST.false
@@ -114,9 +131,12 @@ pub returns-else-change-eq0 : goal.returns-else-change-eq0
 returns-else-change-eq0 t c =
     let read : node_at c.args.nodes.now c.args.n ≡ Node.Fork c.in-Fork.fork = sym c.leaf_or_fork.ensures ∙ ap as_node c.in-Fork.is in
     let step : let a = c.args in
-    Stepped a.nodes.now a.n a.length a.index c.in-Fork.fork c.toward-step.result = record { read = read; toward = record { to_left = c.toward-step.ensures.value; to_right = c.toward-step.ensures.value_2 } } in
-    let done : (b : (ToRemove c.args.nodes.now c.args.n c.args.levels c.args.head.now c.args.length c.args.index)) → let call = c.remove_below-change in
-    Gone (to_child (step) b) call.new.nodes call.new.head (held call.result) call.new.bit = λ b. gone_held c.remove_below-change.result (record { sfits = c.remove_below-change.type_inv })
+    Stepped a.nodes.now a.n a.length a.index c.in-Fork.fork c.toward-step.result =
+    record { read = read; toward = record { to_left = c.toward-step.ensures.value; to_right = c.toward-step.ensures.value_2 } } in
+    let done : (b : (ToRemove c.args.nodes.now c.args.n c.args.levels c.args.head.now c.args.length c.args.index)) → let call =
+    c.remove_below-change in
+    Gone (to_child (step) b) call.new.nodes call.new.head (held call.result) call.new.bit =
+    λ b. gone_held c.remove_below-change.result (record { sfits = c.remove_below-change.type_inv })
     (c.remove_below-change.ensures (to_child (step) b)) in
     λ b.
     let d = c.child_changed in

@@ -5,7 +5,8 @@ use Rattle.text.proofs.Putting.{decimal_length, decimal_places}
 use Rattle.text.proofs.numbers.put_decimal.Goals as goal
 
 pub put_digits-requires : goal.put_digits-requires
-put_digits-requires c = (omega arith, omega arith, omega (arith, c.places-count.ensures ∙ sym (decimal_places c.args.number), decimal_length c.args.number))
+put_digits-requires c =
+    (omega arith, omega arith, omega (arith, c.places-count.ensures ∙ sym (decimal_places c.args.number), decimal_length c.args.number))
 
 pub overflow_add-result : goal.overflow_add-result
 overflow_add-result c = omega (arith, c.places-count.ensures ∙ sym (decimal_places c.args.number), decimal_length c.args.number)

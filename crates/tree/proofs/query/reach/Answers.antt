@@ -21,7 +21,8 @@ pub loop-leaf-preserved : goal.loop-leaf-preserved
 loop-leaf-preserved c =
     let at_fork : let a = c.args in let l = c.loop-leaf in
     (s : TreeAt a.nodes.now a.root 12 a.length)
-    → OnFork a.nodes.now l.n l.levels (Reaching s.tree a.place l.len l.at l.ones) c.in-Fork.fork = λ s. told_fork (c.loop-leaf.invariant s) c.leaf_or_fork.ensures c.in-Fork.is in
+    → OnFork a.nodes.now l.n l.levels (Reaching s.tree a.place l.len l.at l.ones) c.in-Fork.fork =
+    λ s. told_fork (c.loop-leaf.invariant s) c.leaf_or_fork.ensures c.in-Fork.is in
     λ s.
     let step = c.toward-step in
     reach_step (at_fork s) _ step.ensures.value step.ensures.value_2 c.either-ones.ensures
@@ -30,16 +31,24 @@ pub overflow_add-ones : goal.overflow_add-ones
 overflow_add-ones c =
     let at_fork : let a = c.args in let l = c.loop-leaf in
     (s : TreeAt a.nodes.now a.root 12 a.length)
-    → OnFork a.nodes.now l.n l.levels (Reaching s.tree a.place l.len l.at l.ones) c.in-Fork.fork = λ s. told_fork (c.loop-leaf.invariant s) c.leaf_or_fork.ensures c.in-Fork.is in
+    → OnFork a.nodes.now l.n l.levels (Reaching s.tree a.place l.len l.at l.ones) c.in-Fork.fork =
+    λ s. told_fork (c.loop-leaf.invariant s) c.leaf_or_fork.ensures c.in-Fork.is in
     let s = c.requires.0 in
     let step = c.toward-step in
-    omega (arith, (reach_step (at_fork s) _ step.ensures.value step.ensures.value_2 c.either-ones.ensures).here.strikes, rank_most s.tree true c.args.place, s.total, c.ranges.length)
+    omega (
+      arith,
+      (reach_step (at_fork s) _ step.ensures.value step.ensures.value_2 c.either-ones.ensures).here.strikes,
+      rank_most s.tree true c.args.place,
+      s.total,
+      c.ranges.length,
+    )
 
 pub loop-leaf-smaller : goal.loop-leaf-smaller
 loop-leaf-smaller c =
     let at_fork : let a = c.args in let l = c.loop-leaf in
     (s : TreeAt a.nodes.now a.root 12 a.length)
-    → OnFork a.nodes.now l.n l.levels (Reaching s.tree a.place l.len l.at l.ones) c.in-Fork.fork = λ s. told_fork (c.loop-leaf.invariant s) c.leaf_or_fork.ensures c.in-Fork.is in
+    → OnFork a.nodes.now l.n l.levels (Reaching s.tree a.place l.len l.at l.ones) c.in-Fork.fork =
+    λ s. told_fork (c.loop-leaf.invariant s) c.leaf_or_fork.ensures c.in-Fork.is in
     let within : let l = c.loop-leaf in
     (1 ≤ l.levels) × (c.in-Fork.fork.left_total ≤ l.len) = let here = at_fork c.requires.0 in
     (on_level here, on_fork here (λ m u v e q. reach_total m u v _ e q)) in
@@ -49,7 +58,8 @@ pub overflow_sub-levels : goal.overflow_sub-levels
 overflow_sub-levels c =
     let at_fork : let a = c.args in let l = c.loop-leaf in
     (s : TreeAt a.nodes.now a.root 12 a.length)
-    → OnFork a.nodes.now l.n l.levels (Reaching s.tree a.place l.len l.at l.ones) c.in-Fork.fork = λ s. told_fork (c.loop-leaf.invariant s) c.leaf_or_fork.ensures c.in-Fork.is in
+    → OnFork a.nodes.now l.n l.levels (Reaching s.tree a.place l.len l.at l.ones) c.in-Fork.fork =
+    λ s. told_fork (c.loop-leaf.invariant s) c.leaf_or_fork.ensures c.in-Fork.is in
     let within : let l = c.loop-leaf in
     (1 ≤ l.levels) × (c.in-Fork.fork.left_total ≤ l.len) = let here = at_fork c.requires.0 in
     (on_level here, on_fork here (λ m u v e q. reach_total m u v _ e q)) in
@@ -59,7 +69,8 @@ pub toward-step-requires : goal.toward-step-requires
 toward-step-requires c =
     let at_fork : let a = c.args in let l = c.loop-leaf in
     (s : TreeAt a.nodes.now a.root 12 a.length)
-    → OnFork a.nodes.now l.n l.levels (Reaching s.tree a.place l.len l.at l.ones) c.in-Fork.fork = λ s. told_fork (c.loop-leaf.invariant s) c.leaf_or_fork.ensures c.in-Fork.is in
+    → OnFork a.nodes.now l.n l.levels (Reaching s.tree a.place l.len l.at l.ones) c.in-Fork.fork =
+    λ s. told_fork (c.loop-leaf.invariant s) c.leaf_or_fork.ensures c.in-Fork.is in
     let within : let l = c.loop-leaf in
     (1 ≤ l.levels) × (c.in-Fork.fork.left_total ≤ l.len) = let here = at_fork c.requires.0 in
     (on_level here, on_fork here (λ m u v e q. reach_total m u v _ e q)) in

@@ -29,7 +29,8 @@ unfolding bits_of
 placed-requires c =
     let at_leaf : let a = c.args in let l = c.loop-leaf in
     (s : TreeAt a.nodes.now a.root 12 a.length)
-    → OnLeaf a.nodes.now l.n l.levels (Selecting s.tree a.bit a.k l.skip l.before) c.in-Leaf.leaf = λ s. told_leaf (c.loop-leaf.invariant s) c.leaf_or_fork.ensures c.in-Leaf.is in
+    → OnLeaf a.nodes.now l.n l.levels (Selecting s.tree a.bit a.k l.skip l.before) c.in-Leaf.leaf =
+    λ s. told_leaf (c.loop-leaf.invariant s) c.leaf_or_fork.ensures c.in-Leaf.is in
     let asked : TreeAt c.args.nodes.now c.args.root 12 c.args.length = tree_at c.requires.0 c.requires.1 c.requires.2 in
     let s = asked in
     on_leaf (at_leaf s)
@@ -40,7 +41,8 @@ unfolding bits_of
 returns-in-Leaf c =
     let at_leaf : let a = c.args in let l = c.loop-leaf in
     (s : TreeAt a.nodes.now a.root 12 a.length)
-    → OnLeaf a.nodes.now l.n l.levels (Selecting s.tree a.bit a.k l.skip l.before) c.in-Leaf.leaf = λ s. told_leaf (c.loop-leaf.invariant s) c.leaf_or_fork.ensures c.in-Leaf.is in
+    → OnLeaf a.nodes.now l.n l.levels (Selecting s.tree a.bit a.k l.skip l.before) c.in-Leaf.leaf =
+    λ s. told_leaf (c.loop-leaf.invariant s) c.leaf_or_fork.ensures c.in-Leaf.is in
     λ t h e.
     c.placed.ensures
     ∙ on_leaf (at_leaf (tree_at t h e)) (λ m xs s k q. select_here m xs _ s k q _ c.select128.ensures _ e)
@@ -50,7 +52,8 @@ overflow_add-before c =
     let asked : TreeAt c.args.nodes.now c.args.root 12 c.args.length = tree_at c.requires.0 c.requires.1 c.requires.2 in
     let at_fork : let a = c.args in let l = c.loop-leaf in
     (s : TreeAt a.nodes.now a.root 12 a.length)
-    → OnFork a.nodes.now l.n l.levels (Selecting s.tree a.bit a.k l.skip l.before) c.in-Fork.fork = λ s. told_fork (c.loop-leaf.invariant s) c.leaf_or_fork.ensures c.in-Fork.is in
+    → OnFork a.nodes.now l.n l.levels (Selecting s.tree a.bit a.k l.skip l.before) c.in-Fork.fork =
+    λ s. told_fork (c.loop-leaf.invariant s) c.leaf_or_fork.ensures c.in-Fork.is in
     let says : let l = c.loop-leaf in let f = c.in-Fork.fork in
     (1 ≤ l.levels) × (f.left_ones ≤ f.left_total) × (l.before + f.left_total < 2 ^ 64) = let s = asked in
     let here = at_fork s in
@@ -65,7 +68,8 @@ pub loop-leaf-preserved : goal.loop-leaf-preserved
 loop-leaf-preserved c =
     let at_fork : let a = c.args in let l = c.loop-leaf in
     (s : TreeAt a.nodes.now a.root 12 a.length)
-    → OnFork a.nodes.now l.n l.levels (Selecting s.tree a.bit a.k l.skip l.before) c.in-Fork.fork = λ s. told_fork (c.loop-leaf.invariant s) c.leaf_or_fork.ensures c.in-Fork.is in
+    → OnFork a.nodes.now l.n l.levels (Selecting s.tree a.bit a.k l.skip l.before) c.in-Fork.fork =
+    λ s. told_fork (c.loop-leaf.invariant s) c.leaf_or_fork.ensures c.in-Fork.is in
     λ s.
     select_step (at_fork s) c.wanted-here.ensures c.either-n.ensures c.either-before.ensures
     c.either-skip.ensures (λ t. search rules) (λ t. search rules)
@@ -78,7 +82,8 @@ loop-leaf-smaller c =
     let asked : TreeAt c.args.nodes.now c.args.root 12 c.args.length = tree_at c.requires.0 c.requires.1 c.requires.2 in
     let at_fork : let a = c.args in let l = c.loop-leaf in
     (s : TreeAt a.nodes.now a.root 12 a.length)
-    → OnFork a.nodes.now l.n l.levels (Selecting s.tree a.bit a.k l.skip l.before) c.in-Fork.fork = λ s. told_fork (c.loop-leaf.invariant s) c.leaf_or_fork.ensures c.in-Fork.is in
+    → OnFork a.nodes.now l.n l.levels (Selecting s.tree a.bit a.k l.skip l.before) c.in-Fork.fork =
+    λ s. told_fork (c.loop-leaf.invariant s) c.leaf_or_fork.ensures c.in-Fork.is in
     let says : let l = c.loop-leaf in let f = c.in-Fork.fork in
     (1 ≤ l.levels) × (f.left_ones ≤ f.left_total) × (l.before + f.left_total < 2 ^ 64) = let s = asked in
     let here = at_fork s in
@@ -97,7 +102,8 @@ overflow_sub-levels c =
     let asked : TreeAt c.args.nodes.now c.args.root 12 c.args.length = tree_at c.requires.0 c.requires.1 c.requires.2 in
     let at_fork : let a = c.args in let l = c.loop-leaf in
     (s : TreeAt a.nodes.now a.root 12 a.length)
-    → OnFork a.nodes.now l.n l.levels (Selecting s.tree a.bit a.k l.skip l.before) c.in-Fork.fork = λ s. told_fork (c.loop-leaf.invariant s) c.leaf_or_fork.ensures c.in-Fork.is in
+    → OnFork a.nodes.now l.n l.levels (Selecting s.tree a.bit a.k l.skip l.before) c.in-Fork.fork =
+    λ s. told_fork (c.loop-leaf.invariant s) c.leaf_or_fork.ensures c.in-Fork.is in
     let says : let l = c.loop-leaf in let f = c.in-Fork.fork in
     (1 ≤ l.levels) × (f.left_ones ≤ f.left_total) × (l.before + f.left_total < 2 ^ 64) = let s = asked in
     let here = at_fork s in
@@ -113,7 +119,8 @@ wanted-here-requires c =
     let asked : TreeAt c.args.nodes.now c.args.root 12 c.args.length = tree_at c.requires.0 c.requires.1 c.requires.2 in
     let at_fork : let a = c.args in let l = c.loop-leaf in
     (s : TreeAt a.nodes.now a.root 12 a.length)
-    → OnFork a.nodes.now l.n l.levels (Selecting s.tree a.bit a.k l.skip l.before) c.in-Fork.fork = λ s. told_fork (c.loop-leaf.invariant s) c.leaf_or_fork.ensures c.in-Fork.is in
+    → OnFork a.nodes.now l.n l.levels (Selecting s.tree a.bit a.k l.skip l.before) c.in-Fork.fork =
+    λ s. told_fork (c.loop-leaf.invariant s) c.leaf_or_fork.ensures c.in-Fork.is in
     let says : let l = c.loop-leaf in let f = c.in-Fork.fork in
     (1 ≤ l.levels) × (f.left_ones ≤ f.left_total) × (l.before + f.left_total < 2 ^ 64) = let s = asked in
     let here = at_fork s in

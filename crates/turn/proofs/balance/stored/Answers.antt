@@ -8,14 +8,16 @@ use Rattle.turn.proofs.balance.stored.Goals as goal
 
 pub overflow_add-result : goal.overflow_add-result
 overflow_add-result c =
-    let two_more : (k : ℕ) × (Apart c.args.balance k 2 × (Apart (held c.args.balance +ℤ pos 2) k 0 × (k ≤ 4))) = let x = from 2 c.args.balance c.requires in
+    let two_more : (k : ℕ) × (Apart c.args.balance k 2 × (Apart (held c.args.balance +ℤ pos 2) k 0 × (k ≤ 4))) = let x =
+    from 2 c.args.balance c.requires in
     let h = read c.args.balance x.1.0 (omega arith) (omega arith) in
     (x.0, (x.1.0, (same _ x.0 0 (sum (held c.args.balance) (pos 2) h (some 2)) (omega arith), omega arith))) in
     let t = two_more in fits _ t.1.1.0 (omega arith) (omega arith)
 
 pub overflow_cast-result : goal.overflow_cast-result
 overflow_cast-result c =
-    let two_more : (k : ℕ) × (Apart c.args.balance k 2 × (Apart (held c.args.balance +ℤ pos 2) k 0 × (k ≤ 4))) = let x = from 2 c.args.balance c.requires in
+    let two_more : (k : ℕ) × (Apart c.args.balance k 2 × (Apart (held c.args.balance +ℤ pos 2) k 0 × (k ≤ 4))) = let x =
+    from 2 c.args.balance c.requires in
     let h = read c.args.balance x.1.0 (omega arith) (omega arith) in
     (x.0, (x.1.0, (same _ x.0 0 (sum (held c.args.balance) (pos 2) h (some 2)) (omega arith), omega arith))) in
     let t = two_more in
@@ -24,7 +26,8 @@ overflow_cast-result c =
 
 pub returns : goal.returns
 returns c =
-    let two_more : (k : ℕ) × (Apart c.args.balance k 2 × (Apart (held c.args.balance +ℤ pos 2) k 0 × (k ≤ 4))) = let x = from 2 c.args.balance c.requires in
+    let two_more : (k : ℕ) × (Apart c.args.balance k 2 × (Apart (held c.args.balance +ℤ pos 2) k 0 × (k ≤ 4))) = let x =
+    from 2 c.args.balance c.requires in
     let h = read c.args.balance x.1.0 (omega arith) (omega arith) in
     (x.0, (x.1.0, (same _ x.0 0 (sum (held c.args.balance) (pos 2) h (some 2)) (omega arith), omega arith))) in
     let t = two_more in

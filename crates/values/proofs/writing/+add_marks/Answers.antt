@@ -20,7 +20,8 @@ add_leaf-requires t c =
 pub overflow_sub-below : goal.overflow_sub-below
 overflow_sub-below t c =
     let parts : let a = c.args in
-    (s : TreeAt a.nodes.now a.n a.levels a.length) → Parts a.nodes.now a.levels a.length c.in-Fork.fork s.tree = λ s. stands_fork s c.leaf_or_fork.ensures c.in-Fork.is in
+    (s : TreeAt a.nodes.now a.n a.levels a.length) → Parts a.nodes.now a.levels a.length c.in-Fork.fork s.tree =
+    λ s. stands_fork s c.leaf_or_fork.ensures c.in-Fork.is in
     let children :
     Parts c.args.nodes.now c.args.levels c.args.length c.in-Fork.fork c.requires.0.tree = parts c.requires.0 in
     (children).level
@@ -28,7 +29,8 @@ overflow_sub-below t c =
 pub add_marks-first-requires : goal.add_marks-first-requires
 add_marks-first-requires t c =
     let parts : let a = c.args in
-    (s : TreeAt a.nodes.now a.n a.levels a.length) → Parts a.nodes.now a.levels a.length c.in-Fork.fork s.tree = λ s. stands_fork s c.leaf_or_fork.ensures c.in-Fork.is in
+    (s : TreeAt a.nodes.now a.n a.levels a.length) → Parts a.nodes.now a.levels a.length c.in-Fork.fork s.tree =
+    λ s. stands_fork s c.leaf_or_fork.ensures c.in-Fork.is in
     let children :
     Parts c.args.nodes.now c.args.levels c.args.length c.in-Fork.fork c.requires.0.tree = parts c.requires.0 in
     let p = c.requires in
@@ -38,7 +40,8 @@ add_marks-first-requires t c =
 pub overflow_sub-length : goal.overflow_sub-length
 overflow_sub-length t c =
     let parts : let a = c.args in
-    (s : TreeAt a.nodes.now a.n a.levels a.length) → Parts a.nodes.now a.levels a.length c.in-Fork.fork s.tree = λ s. stands_fork s c.leaf_or_fork.ensures c.in-Fork.is in
+    (s : TreeAt a.nodes.now a.n a.levels a.length) → Parts a.nodes.now a.levels a.length c.in-Fork.fork s.tree =
+    λ s. stands_fork s c.leaf_or_fork.ensures c.in-Fork.is in
     let children :
     Parts c.args.nodes.now c.args.levels c.args.length c.in-Fork.fork c.requires.0.tree = parts c.requires.0 in
     (children).within
@@ -46,7 +49,8 @@ overflow_sub-length t c =
 pub add_marks-requires : goal.add_marks-requires
 add_marks-requires t c =
     let parts : let a = c.args in
-    (s : TreeAt a.nodes.now a.n a.levels a.length) → Parts a.nodes.now a.levels a.length c.in-Fork.fork s.tree = λ s. stands_fork s c.leaf_or_fork.ensures c.in-Fork.is in
+    (s : TreeAt a.nodes.now a.n a.levels a.length) → Parts a.nodes.now a.levels a.length c.in-Fork.fork s.tree =
+    λ s. stands_fork s c.leaf_or_fork.ensures c.in-Fork.is in
     let children :
     Parts c.args.nodes.now c.args.levels c.args.length c.in-Fork.fork c.requires.0.tree = parts c.requires.0 in
     let p = c.requires in
@@ -66,7 +70,8 @@ returns-in-Leaf t c =
 pub returns-in-Fork : goal.returns-in-Fork
 returns-in-Fork t c =
     let parts : let a = c.args in
-    (s : TreeAt a.nodes.now a.n a.levels a.length) → Parts a.nodes.now a.levels a.length c.in-Fork.fork s.tree = λ s. stands_fork s c.leaf_or_fork.ensures c.in-Fork.is in
+    (s : TreeAt a.nodes.now a.n a.levels a.length) → Parts a.nodes.now a.levels a.length c.in-Fork.fork s.tree =
+    λ s. stands_fork s c.leaf_or_fork.ensures c.in-Fork.is in
     let children :
     Parts c.args.nodes.now c.args.levels c.args.length c.in-Fork.fork c.requires.0.tree = parts c.requires.0 in
     let a = c.add_marks-first.ensures in
