@@ -1,4 +1,4 @@
--- A leaf that holds marks xs is `leaf-of xs`: its bits are xs and then zeros. So each call on it, at a length and a place at which it
+-- A leaf that holds marks xs is `leaf_of xs`: its bits are xs and then zeros. So each call on it, at a length and a place at which it
 -- is meant, gives the leaf that holds the edited marks, or the list's own answer. The places 127 and the lengths 127 and 128 are
 -- among them.
 use Prim.Native.Nat.{ℕ, zero, suc, ◌+◌, ◌-◌, ◌≤◌, ◌<◌}

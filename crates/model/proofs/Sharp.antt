@@ -1,4 +1,4 @@
--- The floor is sharp: a pool of any number of nodes can come to have no room for a mark while it holds exactly `least-full` marks, so no greater
+-- The floor is sharp: a pool of any number of nodes can come to have no room for a mark while it holds exactly `least_full` marks, so no greater
 -- number could be promised. It is built with as many leaves as its nodes allow, the rightmost of a single mark; then the first leaf is filled, and of
 -- each other all but 33 marks are taken out.
 use Prim.Native.Nat.{ℕ, zero, suc, ◌+◌, ◌-◌, ◌*◌, ◌≤◌, ◌<◌}
@@ -113,7 +113,7 @@ finish n p s few first d =
     let thinned = becomes_thin is p.tree u.0 p.free s.balanced u.1.thins.1 in
     (map out is, q, thinned, sharp n q (becomes_sound n (map out is) p q thinned s) few u.1.first u.1.held)
 
--- In n nodes, whatever n, a build and edits lead to a pool that has no room for a mark while it holds `least-full` marks. `floor` says that none
+-- In n nodes, whatever n, a build and edits lead to a pool that has no room for a mark while it holds `least_full` marks. `floor` says that none
 -- lacks room at fewer: so this is the number at which Full begins.
 pub floor_reached : (n : ℕ) → 1 ≤ n → Reached n
 floor_reached n least =

@@ -11,13 +11,13 @@ most_nodes = 1023
 abbrev pub most_leaves : ℕ → ℕ
 most_leaves n = (n + 1) / 2
 
--- the most levels of forks above a leaf in a sound pool of at most most-nodes nodes: a walk down takes no more steps
+-- the most levels of forks above a leaf in a sound pool of at most most_nodes nodes: a walk down takes no more steps
 abbrev pub levels : ℕ
 levels = 12
 
 -- The fewest marks that a tree of so many leaves can hold while one of its leaves is full, so that a mark put there
 -- has to split it. A lone leaf is itself the full one. Of several one is full, the rightmost holds a single mark and
--- each of the others leaf-least: in all 33 for each leaf, and 62.
+-- each of the others leaf_least: in all 33 for each leaf, and 62.
 unfoldable pub floor_for : ℕ → ℕ
 floor_for zero = 0
 floor_for (suc zero) = leaf_most

@@ -1,4 +1,4 @@
--- What it says that the floor of Full is sharp: a pool has no room for a mark while it holds no more than `least-full`,
+-- What it says that the floor of Full is sharp: a pool has no room for a mark while it holds no more than `least_full`,
 -- and a build and edits lead to it.
 use Rattle.std.specs.Prelude.{ℕ, ◌≤◌, ◌<◌, ◌≡◌, Bool, true, List, [], ◌∷◌, length}
 use Rattle.std.proofs.Math.Option.{some}
@@ -8,7 +8,7 @@ use Rattle.model.specs.Pool.{Pool, build, full, insert, remove, two_free}
 use Rattle.model.specs.Sound.{Sound, leaf_most}
 use Rattle.model.specs.Tree.{size}
 
--- a sound pool of n nodes that has no room for a mark at place i, though it holds no more marks than least-full says
+-- a sound pool of n nodes that has no room for a mark at place i, though it holds no more marks than least_full says
 pub record Sharp (n i : ℕ) (p : Pool) : Type 0 where
   pub sound : Sound n p
   pub within : i ≤ size p.tree

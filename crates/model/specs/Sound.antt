@@ -14,7 +14,7 @@ abbrev pub Balanced : Tree → Type 0
 Balanced (leaf n xs) = Unit {0}
 Balanced (fork n l r) = Balanced l × Balanced r × (height l ≤ suc (height r)) × (height r ≤ suc (height l))
 
--- every leaf holds at most leaf-most marks, and at least leaf-least; but the rightmost need hold only so many as the
+-- every leaf holds at most leaf_most marks, and at least leaf_least; but the rightmost need hold only so many as the
 -- first argument says
 abbrev pub Sized : ℕ → Tree → Type 0
 Sized least (leaf n xs) = (least ≤ length xs) × (length xs ≤ leaf_most)

@@ -31,25 +31,25 @@ overflow_add-length t c =
 pub settle-requires : goal.settle-requires
 settle-requires t c =
     let read_leaf : node_at c.args.nodes.now c.args.n ≡ Node.Leaf c.in-Leaf.leaf = sym c.leaf_or_fork.ensures ∙ ap as_node c.in-Leaf.is in
-    to_settle c.requires c.args.bit (read_leaf) c.insert.ensures
+    to_settle c.requires c.args.bit read_leaf c.insert.ensures
 
 pub toward-step-requires : goal.toward-step-requires
 toward-step-requires t c =
     let read-fork : node_at c.args.nodes.now c.args.n ≡ Node.Fork c.in-Fork.fork = sym c.leaf_or_fork.ensures ∙ ap as_node c.in-Fork.is in
     let b = c.requires in
-    left_within b.at.site.rooted (read-fork) b.at.total_is
+    left_within b.at.site.rooted read-fork b.at.total_is
 
 pub overflow_add-total : goal.overflow_add-total
 overflow_add-total t c =
     let read-fork : node_at c.args.nodes.now c.args.n ≡ Node.Fork c.in-Fork.fork = sym c.leaf_or_fork.ensures ∙ ap as_node c.in-Fork.is in
-    let fits : let f = c.in-Fork.fork in (f.left_total + 1 < 2 ^ 64) × (f.left_ones + 1 < 2 ^ 64) = left_fits c.requires (read-fork) in
-    byte_fits _ c.toward-step.result.left (fits).0
+    let fits : let f = c.in-Fork.fork in (f.left_total + 1 < 2 ^ 64) × (f.left_ones + 1 < 2 ^ 64) = left_fits c.requires read-fork in
+    byte_fits _ c.toward-step.result.left fits.0
 
 pub overflow_add-ones : goal.overflow_add-ones
 overflow_add-ones t c =
     let read-fork : node_at c.args.nodes.now c.args.n ≡ Node.Fork c.in-Fork.fork = sym c.leaf_or_fork.ensures ∙ ap as_node c.in-Fork.is in
-    let fits : let f = c.in-Fork.fork in (f.left_total + 1 < 2 ^ 64) × (f.left_ones + 1 < 2 ^ 64) = left_fits c.requires (read-fork) in
-    byte_fits _ (c.toward-step.result.left && c.args.bit) (fits).1
+    let fits : let f = c.in-Fork.fork in (f.left_total + 1 < 2 ^ 64) × (f.left_ones + 1 < 2 ^ 64) = left_fits c.requires read-fork in
+    byte_fits _ (c.toward-step.result.left && c.args.bit) fits.1
 
 pub set_left-requires : goal.set_left-requires
 set_left-requires t c =
@@ -59,7 +59,7 @@ set_left-requires t c =
 pub overflow_sub-levels : goal.overflow_sub-levels
 overflow_sub-levels t c =
     let read-fork : node_at c.args.nodes.now c.args.n ≡ Node.Fork c.in-Fork.fork = sym c.leaf_or_fork.ensures ∙ ap as_node c.in-Fork.is in
-    fork_level c.requires.at.site.rooted (read-fork)
+    fork_level c.requires.at.site.rooted read-fork
 
 pub insert_below-change-requires : goal.insert_below-change-requires
 insert_below-change-requires t c =
@@ -75,7 +75,7 @@ insert_below-change-requires t c =
     })
     c.set_left.ensures in
     let b = c.requires in
-    (omega (arith, c.decreases, fork_level b.at.site.rooted (step).step.read), to_child (step) b)
+    (omega (arith, c.decreases, fork_level b.at.site.rooted step.step.read), to_child step b)
 
 pub returns-then-change-eq0 : goal.returns-then-change-eq0
 returns-then-change-eq0 t c =
@@ -91,11 +91,11 @@ returns-then-change-eq0 t c =
     })
     c.set_left.ensures in
     let done : (b : (ToInsert c.args.nodes.now c.args.n c.args.levels c.args.head.now c.args.length c.args.index))
-    → Inserted (to_child (step) b) c.insert_below-change.new.nodes c.insert_below-change.new.head (held c.insert_below-change.result)
+    → Inserted (to_child step b) c.insert_below-change.new.nodes c.insert_below-change.new.head (held c.insert_below-change.result)
     c.args.bit = λ b. after_held c.insert_below-change.result (record { sfits = c.insert_below-change.type_inv })
-    (c.insert_below-change.ensures (to_child (step) b)) in
+    (c.insert_below-change.ensures (to_child step b)) in
     λ b.
-    insert_level (step) b (done b) (ap (to_z w64) c.if-change-eq0.true)
+    insert_level step b (done b) (ap (to_z w64) c.if-change-eq0.true)
 
 pub child_changed-requires : goal.child_changed-requires
 child_changed-requires t c =
@@ -111,11 +111,11 @@ child_changed-requires t c =
     })
     c.set_left.ensures in
     let done : (b : (ToInsert c.args.nodes.now c.args.n c.args.levels c.args.head.now c.args.length c.args.index))
-    → Inserted (to_child (step) b) c.insert_below-change.new.nodes c.insert_below-change.new.head (held c.insert_below-change.result)
+    → Inserted (to_child step b) c.insert_below-change.new.nodes c.insert_below-change.new.head (held c.insert_below-change.result)
     c.args.bit = λ b. after_held c.insert_below-change.result (record { sfits = c.insert_below-change.type_inv })
-    (c.insert_below-change.ensures (to_child (step) b)) in
+    (c.insert_below-change.ensures (to_child step b)) in
     let b = c.requires in
-    insert_stale (step) b (done b)
+    insert_stale step b (done b)
 
 pub returns-in-Leaf : goal.returns-in-Leaf
 returns-in-Leaf t c =
@@ -142,10 +142,10 @@ returns-else-change-eq0 t c =
     })
     c.set_left.ensures in
     let done : (b : (ToInsert c.args.nodes.now c.args.n c.args.levels c.args.head.now c.args.length c.args.index))
-    → Inserted (to_child (step) b) c.insert_below-change.new.nodes c.insert_below-change.new.head (held c.insert_below-change.result)
+    → Inserted (to_child step b) c.insert_below-change.new.nodes c.insert_below-change.new.head (held c.insert_below-change.result)
     c.args.bit = λ b. after_held c.insert_below-change.result (record { sfits = c.insert_below-change.type_inv })
-    (c.insert_below-change.ensures (to_child (step) b)) in
+    (c.insert_below-change.ensures (to_child step b)) in
     λ b.
     let changed = c.child_changed in
     after_held changed.result (record { sfits = changed.type_inv })
-    (insert_leveled (step) b (done b) changed.ensures)
+    (insert_leveled step b (done b) changed.ensures)

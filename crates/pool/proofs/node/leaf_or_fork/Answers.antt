@@ -16,7 +16,7 @@ returns-then-cell-eq0 c =
     let words : c.cell_at-cell.result ≡ cell_of (node_at c.args.nodes.now c.args.n) =
     let w = c.args.nodes.now in
     c.cell_at-cell.ensures ∙ tree_node_cell w c.args.n (of_tree (node_at w c.args.n) c.requires) in
-    ap leaf c.leaf_in.ensures ∙ a_leaf c.cell_at-cell.result (node_at c.args.nodes.now c.args.n) c.requires (words)
+    ap leaf c.leaf_in.ensures ∙ a_leaf c.cell_at-cell.result (node_at c.args.nodes.now c.args.n) c.requires words
     c.if-cell-eq0.true
 
 pub returns : goal.returns
@@ -24,4 +24,4 @@ returns c =
     let words : c.cell_at-cell.result ≡ cell_of (node_at c.args.nodes.now c.args.n) =
     let w = c.args.nodes.now in
     c.cell_at-cell.ensures ∙ tree_node_cell w c.args.n (of_tree (node_at w c.args.n) c.requires) in
-    ap fork c.fork_in.ensures ∙ a_fork c.cell_at-cell.result (node_at c.args.nodes.now c.args.n) c.requires (words) (omega arith)
+    ap fork c.fork_in.ensures ∙ a_fork c.cell_at-cell.result (node_at c.args.nodes.now c.args.n) c.requires words (omega arith)

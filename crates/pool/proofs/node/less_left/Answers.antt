@@ -8,12 +8,12 @@ use Rattle.pool.proofs.node.less_left.Goals as goal
 pub overflow_sub-fork : goal.overflow_sub-fork
 overflow_sub-fork c =
     let read : c.fork_at-fork.result ≡ c.requires.0 = c.fork_at-fork.ensures ∙ ap fork_in c.requires.1 in
-    omega (arith, ap (λ (g : Fork). g.left_total) (read), c.requires.2)
+    omega (arith, ap (λ (g : Fork). g.left_total) read, c.requires.2)
 
 pub overflow_sub-fork-2 : goal.overflow_sub-fork-2
 overflow_sub-fork-2 c =
     let read : c.fork_at-fork.result ≡ c.requires.0 = c.fork_at-fork.ensures ∙ ap fork_in c.requires.1 in
-    omega (arith, ap (λ (g : Fork). g.left_ones) (read), c.requires.3)
+    omega (arith, ap (λ (g : Fork). g.left_ones) read, c.requires.3)
 
 pub returns : goal.returns
 returns c = λ f e.

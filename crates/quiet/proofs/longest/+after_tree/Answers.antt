@@ -21,7 +21,7 @@ overflow_sub-below t c =
     λ s. stands_fork s c.leaf_or_fork.ensures c.in-Fork.is in
     let children :
     Parts c.args.nodes.now c.args.levels c.args.length c.in-Fork.fork c.requires.0.tree = parts c.requires.0 in
-    (children).level
+    children.level
 
 pub after_tree-first-requires : goal.after_tree-first-requires
 after_tree-first-requires t c =
@@ -41,7 +41,7 @@ overflow_sub-length t c =
     λ s. stands_fork s c.leaf_or_fork.ensures c.in-Fork.is in
     let children :
     Parts c.args.nodes.now c.args.levels c.args.length c.in-Fork.fork c.requires.0.tree = parts c.requires.0 in
-    (children).within
+    children.within
 
 pub after_tree-requires : goal.after_tree-requires
 after_tree-requires t c =

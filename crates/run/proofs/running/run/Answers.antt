@@ -15,13 +15,13 @@ returns-then-n-eq0 c = no_ran _ _ _ (c.nodes_of-n.ensures.no c.if-n-eq0.true)
 pub returns-then-orders-ne0 : goal.returns-then-orders-ne0
 returns-then-orders-ne0 c =
     let counted : Counted c.args.pool.now c.nodes_of-n.result = c.nodes_of-n.ensures.yes (omega (arith, c.if-n-eq0.false)) in
-    part_ran _ _ _ _ (counted) (λ e. c.if-orders-ne0.true (omega arith))
+    part_ran _ _ _ _ counted (λ e. c.if-orders-ne0.true (omega arith))
 
 pub returns-then-out-count : goal.returns-then-out-count
 returns-then-out-count c =
     let whole : length c.args.orders.now % 3 ≡ 0 = omega (arith, c.if-orders-ne0.false) in
     let counted : Counted c.args.pool.now c.nodes_of-n.result = c.nodes_of-n.ensures.yes (omega (arith, c.if-n-eq0.false)) in
-    short_ran _ _ _ _ (counted) (whole) (omega (arith, c.if-out-count.true))
+    short_ran _ _ _ _ counted whole (omega (arith, c.if-out-count.true))
 
 pub judged-requires : goal.judged-requires
 judged-requires c =
@@ -49,7 +49,7 @@ returns-in-Stands c =
     let room :
     2 * order_count c.args.orders.now ≤ length c.args.out.now = omega (arith, c.if-out-count.false) in
     let p = standing in
-    served_ran _ _ _ _ (counted) (whole) (room) p.0 p.1 c.serve_all.ensures
+    served_ran _ _ _ _ counted whole room p.0 p.1 c.serve_all.ensures
 
 pub returns-in-Damaged : goal.returns-in-Damaged
 returns-in-Damaged c =
@@ -57,5 +57,5 @@ returns-in-Damaged c =
     let counted : Counted c.args.pool.now c.nodes_of-n.result = c.nodes_of-n.ensures.yes (omega (arith, c.if-n-eq0.false)) in
     let room :
     2 * order_count c.args.orders.now ≤ length c.args.out.now = omega (arith, c.if-out-count.false) in
-    damaged_ran _ _ _ _ (counted) (whole) (room)
+    damaged_ran _ _ _ _ counted whole room
     (rw c.in-Damaged.is at c.judged.ensures)

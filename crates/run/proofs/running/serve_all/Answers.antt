@@ -21,7 +21,7 @@ bounds-out-to c =
     let reached :
     Reached c.args.n c.args.orders.now c.args.out.now c.requires.0 c.loop-i.i c.loop-i.pool c.loop-i.out =
     c.loop-i.invariant.1 c.requires.0 c.requires.1 in
-    let same_out : length c.loop-i.out ≡ length c.args.out.now = reached_length (reached) (omega (arith, c.loop-i.invariant.0, c.requires.3)) in
+    let same_out : length c.loop-i.out ≡ length c.args.out.now = reached_length reached (omega (arith, c.loop-i.invariant.0, c.requires.3)) in
     let e = same_out in omega arith
 
 pub bounds-out-to-in-loop-i : goal.bounds-out-to-in-loop-i
@@ -29,7 +29,7 @@ bounds-out-to-in-loop-i c =
     let reached :
     Reached c.args.n c.args.orders.now c.args.out.now c.requires.0 c.loop-i.i c.loop-i.pool c.loop-i.out =
     c.loop-i.invariant.1 c.requires.0 c.requires.1 in
-    let same_out : length c.loop-i.out ≡ length c.args.out.now = reached_length (reached) (omega (arith, c.loop-i.invariant.0, c.requires.3)) in
+    let same_out : length c.loop-i.out ≡ length c.args.out.now = reached_length reached (omega (arith, c.loop-i.invariant.0, c.requires.3)) in
     let e = same_out in simp length-set (omega arith)
 
 pub loop-i-preserved : goal.loop-i-preserved

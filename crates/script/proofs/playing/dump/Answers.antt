@@ -33,7 +33,7 @@ put_words-last-requires c =
     let f = few in (
       omega (arith, f, kept, c.requires.1),
       words_room c.as_words-checked.result.code c.as_words-checked.result.value c.as_words-valued.result.value c.args.out.now _ _
-          (omega (arith, f, c.requires.2)) (two_put),
+          (omega (arith, f, c.requires.2)) two_put,
     )
 
 pub end_line-requires : goal.end_line-requires
@@ -55,7 +55,7 @@ end_line-requires c =
     let ws = c.values.new.out in
     let l = length-take-le i ws (omega (arith, few, kept, c.requires.1)) in
     record { ends = c.put_words-last.ensures.value ∙ omega (arith, words_text_length (take i ws), l); bytes = c.put_words-last.ensures.out_after } in
-    end_room _ _ _ _ _ _ _ _ (room) (two_put) (words-put)
+    end_room _ _ _ _ _ _ _ _ room two_put words-put
 
 pub returns : goal.returns
 returns c =
@@ -83,7 +83,7 @@ returns c =
     (rw c.extent-end.ensures at c.check.ensures) (rw c.extent-end.ensures at c.values.ensures) in
     let line = line_put c.as_words-checked.result.code c.as_words-checked.result.value (take c.as_words-valued.result.value c.values.new.out)
     a.out.now _ _ c.end_line.result _ _ c.end_line.new.out
-    (room) (two_put) (words-put) (record { ends = c.end_line.ensures.value; bytes = c.end_line.ensures.out_after }) in
+    room two_put words-put (record { ends = c.end_line.ensures.value; bytes = c.end_line.ensures.out_after }) in
     played dumping s a.pool.now a.nodes a.out.now c.check.result (take c.as_words-valued.result.value c.values.new.out)
     a.nodes c.end_line.result a.pool.now c.end_line.new.out
     d.did (ap (λ (i : ℕ). take i c.values.new.out) c.as_words-valued.ensures.1 ∙ d.words)

@@ -11,7 +11,7 @@ put_byte-next-requires c =
     let code_put :
     Put 0 (decimal_text c.args.code) c.args.out.now c.put_decimal-end.result c.put_decimal-end.new.out =
     record { ends = c.put_decimal-end.ensures.value; bytes = c.put_decimal-end.ensures.out_after } in
-    space_room c.args.code c.args.value c.args.out.now _ _ c.requires (code_put)
+    space_room c.args.code c.args.value c.args.out.now _ _ c.requires code_put
 
 pub put_decimal-requires : goal.put_decimal-requires
 put_decimal-requires c =
@@ -21,7 +21,7 @@ put_decimal-requires c =
     let code_put :
     Put 0 (decimal_text c.args.code) c.args.out.now c.put_decimal-end.result c.put_decimal-end.new.out =
     record { ends = c.put_decimal-end.ensures.value; bytes = c.put_decimal-end.ensures.out_after } in
-    value_room c.args.code c.args.value c.args.out.now _ _ c.requires (code_put) _ _ (space_put)
+    value_room c.args.code c.args.value c.args.out.now _ _ c.requires code_put _ _ space_put
 
 pub returns : goal.returns
 returns c =
@@ -31,6 +31,6 @@ returns c =
     let code_put :
     Put 0 (decimal_text c.args.code) c.args.out.now c.put_decimal-end.result c.put_decimal-end.new.out =
     record { ends = c.put_decimal-end.ensures.value; bytes = c.put_decimal-end.ensures.out_after } in
-    let p = two_put c.args.code c.args.value c.args.out.now _ _ c.requires (code_put) _ _ (space_put) _ _
+    let p = two_put c.args.code c.args.value c.args.out.now _ _ c.requires code_put _ _ space_put _ _
     (record { ends = c.put_decimal.ensures.value; bytes = c.put_decimal.ensures.out_after }) in
     record { value = p.ends ∙ zero-add _; out_after = p.bytes }

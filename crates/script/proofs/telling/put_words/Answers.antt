@@ -33,7 +33,7 @@ put_hex-end-requires c =
     record { ends = c.put_byte-next.ensures.value; bytes = c.put_byte-next.ensures.out_after } in
     let l = c.loop-i in
     word_room c.args.at l.i c.args.words.now c.args.out.now l.end l.out (omega (arith, c.requires.0)) (omega (arith, c.requires.1))
-    l.invariant.1 _ _ (space_put)
+    l.invariant.1 _ _ space_put
 
 pub loop-i-preserved : goal.loop-i-preserved
 loop-i-preserved c =
@@ -44,7 +44,7 @@ loop-i-preserved c =
       omega arith,
       rw (add-one l.i)
           (word_put c.args.at l.i c.args.words.now c.args.out.now l.end l.out (omega (arith, c.requires.0))
-          (omega (arith, c.requires.1)) l.invariant.1 _ _ (space_put) _ _
+          (omega (arith, c.requires.1)) l.invariant.1 _ _ space_put _ _
           (record {
             ends = c.put_hex-end.ensures.value
                 ∙ omega (arith, hex_length (get_or c.args.words.now l.i 0));

@@ -21,7 +21,7 @@ place_in_byte-requires c =
     rw c.masked_sums-sums.ensures (held 8 8 _ c.loop-left.pos b.begins.0 b.begins.1 (omega arith)) in
     let in-byte :
     InField c.args.value c.args.k 8 (record { pos = c.loop-left.pos; left = c.loop-left.left }) =
-    byte_reached c.loop-left.invariant (here) c.if-left-here.true in
+    byte_reached c.loop-left.invariant here c.if-left-here.true in
     (c.masked_sums-sums.ensures, (_, in-byte))
 
 pub returns : goal.returns
@@ -33,8 +33,8 @@ returns c =
     rw c.masked_sums-sums.ensures (held 8 8 _ c.loop-left.pos b.begins.0 b.begins.1 (omega arith)) in
     let in-byte :
     InField c.args.value c.args.k 8 (record { pos = c.loop-left.pos; left = c.loop-left.left }) =
-    byte_reached c.loop-left.invariant (here) c.if-left-here.true in
-    c.place_in_byte.ensures _ (in-byte)
+    byte_reached c.loop-left.invariant here c.if-left-here.true in
+    c.place_in_byte.ensures _ in-byte
 
 pub loop-left-preserved : goal.loop-left-preserved
 unfolding sums_of
@@ -43,4 +43,4 @@ loop-left-preserved c =
     bit_and (c.masked_sums-sums.result.bytes / 2 ^ c.loop-left.pos) 0xff ≡ ones (bits 8 (c.args.value / 2 ^ c.loop-left.pos)) = let b =
     c.loop-left.invariant in
     rw c.masked_sums-sums.ensures (held 8 8 _ c.loop-left.pos b.begins.0 b.begins.1 (omega arith)) in
-    byte_passed c.loop-left.invariant (here) c.if-left-here.false
+    byte_passed c.loop-left.invariant here c.if-left-here.false

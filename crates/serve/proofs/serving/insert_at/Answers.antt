@@ -19,16 +19,16 @@ returns-then-held-index c = λ end p s.
 pub room-requires : goal.room-requires
 room-requires c =
     let within : let a = c.args in a.index ≤ a.held.length = omega (arith, c.if-held-index.false) in
-    let s = c.requires in to_ask s.2 _ (within)
+    let s = c.requires in to_ask s.2 _ within
 
 pub insert-after-requires : goal.insert-after-requires
 insert-after-requires c =
     let within : let a = c.args in a.index ≤ a.held.length = omega (arith, c.if-held-index.false) in
     let roomy : (end : ℕ) (p : Pool) → let a = c.args in
     ToServe a.nodes.now end a.held a.may p
-    → full a.may a.index p ≡ false = λ end p s. not-true _ (sym (c.room.ensures (to_ask s _ (within))) ∙ c.if-room.true) in
+    → full a.may a.index p ≡ false = λ end p s. not-true _ (sym (c.room.ensures (to_ask s _ within)) ∙ c.if-room.true) in
     let s = c.requires in
-    to_insert s.2 _ (within) (roomy s.0 s.1 s.2)
+    to_insert s.2 _ within (roomy s.0 s.1 s.2)
 
 pub overflow_add-result : goal.overflow_add-result
 overflow_add-result c = let s = c.requires in
@@ -39,7 +39,7 @@ returns-then-room c =
     let within : let a = c.args in a.index ≤ a.held.length = omega (arith, c.if-held-index.false) in
     let roomy : (end : ℕ) (p : Pool) → let a = c.args in
     ToServe a.nodes.now end a.held a.may p
-    → full a.may a.index p ≡ false = λ end p s. not-true _ (sym (c.room.ensures (to_ask s _ (within))) ∙ c.if-room.true) in
+    → full a.may a.index p ≡ false = λ end p s. not-true _ (sym (c.room.ensures (to_ask s _ within)) ∙ c.if-room.true) in
     λ end p s.
     let inside = within in
     let room = roomy end p s in
@@ -50,7 +50,7 @@ returns c =
     let within : let a = c.args in a.index ≤ a.held.length = omega (arith, c.if-held-index.false) in
     let none_left : (end : ℕ) (p : Pool) → let a = c.args in
     ToServe a.nodes.now end a.held a.may p
-    → full a.may a.index p ≡ true = λ end p s. not-false _ (sym (c.room.ensures (to_ask s _ (within))) ∙ c.if-room.false) in
+    → full a.may a.index p ≡ true = λ end p s. not-false _ (sym (c.room.ensures (to_ask s _ within)) ∙ c.if-room.false) in
     λ end p s.
     let a = c.args in
     let full = insert_full a.may a.index a.bit p (omega (arith, s.total, within))

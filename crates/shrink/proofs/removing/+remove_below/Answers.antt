@@ -23,7 +23,7 @@ pub toward-step-requires : goal.toward-step-requires
 toward-step-requires t c =
     let read : node_at c.args.nodes.now c.args.n ≡ Node.Fork c.in-Fork.fork = sym c.leaf_or_fork.ensures ∙ ap as_node c.in-Fork.is in
     let b = c.requires in
-    left_within b.at.site.rooted (read) b.at.total_is
+    left_within b.at.site.rooted read b.at.total_is
 
 pub overflow_sub-below : goal.overflow_sub-below
 overflow_sub-below t c =
@@ -31,7 +31,7 @@ overflow_sub-below t c =
     let step : let a = c.args in
     Stepped a.nodes.now a.n a.length a.index c.in-Fork.fork c.toward-step.result =
     record { read = read; toward = record { to_left = c.toward-step.ensures.value; to_right = c.toward-step.ensures.value_2 } } in
-    fork_level c.requires.at.site.rooted (step).read
+    fork_level c.requires.at.site.rooted step.read
 
 pub remove_below-change-requires : goal.remove_below-change-requires
 remove_below-change-requires t c =
@@ -40,7 +40,7 @@ remove_below-change-requires t c =
     Stepped a.nodes.now a.n a.length a.index c.in-Fork.fork c.toward-step.result =
     record { read = read; toward = record { to_left = c.toward-step.ensures.value; to_right = c.toward-step.ensures.value_2 } } in
     let pre = c.requires in
-    (omega (arith, c.decreases, fork_level pre.at.site.rooted (step).read), to_child (step) pre)
+    (omega (arith, c.decreases, fork_level pre.at.site.rooted step.read), to_child step pre)
 
 pub uncount-requires : goal.uncount-requires
 uncount-requires t c =
@@ -50,11 +50,11 @@ uncount-requires t c =
     record { read = read; toward = record { to_left = c.toward-step.ensures.value; to_right = c.toward-step.ensures.value_2 } } in
     let done : (b : (ToRemove c.args.nodes.now c.args.n c.args.levels c.args.head.now c.args.length c.args.index)) → let call =
     c.remove_below-change in
-    Gone (to_child (step) b) call.new.nodes call.new.head (held call.result) call.new.bit =
+    Gone (to_child step b) call.new.nodes call.new.head (held call.result) call.new.bit =
     λ b. gone_held c.remove_below-change.result (record { sfits = c.remove_below-change.type_inv })
-    (c.remove_below-change.ensures (to_child (step) b)) in
+    (c.remove_below-change.ensures (to_child step b)) in
     let b = c.requires in
-    to_uncount (step) b (done b)
+    to_uncount step b (done b)
 
 pub overflow_sub-length : goal.overflow_sub-length
 overflow_sub-length t c =
@@ -69,11 +69,11 @@ mend-requires t c =
     record { read = read; toward = record { to_left = c.toward-step.ensures.value; to_right = c.toward-step.ensures.value_2 } } in
     let done : (b : (ToRemove c.args.nodes.now c.args.n c.args.levels c.args.head.now c.args.length c.args.index)) → let call =
     c.remove_below-change in
-    Gone (to_child (step) b) call.new.nodes call.new.head (held call.result) call.new.bit =
+    Gone (to_child step b) call.new.nodes call.new.head (held call.result) call.new.bit =
     λ b. gone_held c.remove_below-change.result (record { sfits = c.remove_below-change.type_inv })
-    (c.remove_below-change.ensures (to_child (step) b)) in
+    (c.remove_below-change.ensures (to_child step b)) in
     let b = c.requires in
-    to_mend (step) b (done b) c.uncount.ensures c.if-step-le-LEAF_LEAST.true
+    to_mend step b (done b) c.uncount.ensures c.if-step-le-LEAF_LEAST.true
 
 pub returns-then-step-le-LEAF_LEAST : goal.returns-then-step-le-LEAF_LEAST
 returns-then-step-le-LEAF_LEAST t c =
@@ -83,9 +83,9 @@ returns-then-step-le-LEAF_LEAST t c =
     record { read = read; toward = record { to_left = c.toward-step.ensures.value; to_right = c.toward-step.ensures.value_2 } } in
     let done : (b : (ToRemove c.args.nodes.now c.args.n c.args.levels c.args.head.now c.args.length c.args.index)) → let call =
     c.remove_below-change in
-    Gone (to_child (step) b) call.new.nodes call.new.head (held call.result) call.new.bit =
+    Gone (to_child step b) call.new.nodes call.new.head (held call.result) call.new.bit =
     λ b. gone_held c.remove_below-change.result (record { sfits = c.remove_below-change.type_inv })
-    (c.remove_below-change.ensures (to_child (step) b)) in
+    (c.remove_below-change.ensures (to_child step b)) in
     λ b.
     let m = c.mend in
     let way = step in
@@ -102,11 +102,11 @@ returns-then-change-eq0 t c =
     record { read = read; toward = record { to_left = c.toward-step.ensures.value; to_right = c.toward-step.ensures.value_2 } } in
     let done : (b : (ToRemove c.args.nodes.now c.args.n c.args.levels c.args.head.now c.args.length c.args.index)) → let call =
     c.remove_below-change in
-    Gone (to_child (step) b) call.new.nodes call.new.head (held call.result) call.new.bit =
+    Gone (to_child step b) call.new.nodes call.new.head (held call.result) call.new.bit =
     λ b. gone_held c.remove_below-change.result (record { sfits = c.remove_below-change.type_inv })
-    (c.remove_below-change.ensures (to_child (step) b)) in
+    (c.remove_below-change.ensures (to_child step b)) in
     λ b.
-    remove_level (step) b (done b) c.uncount.ensures c.if-step-le-LEAF_LEAST.false (ap (to_z w64) c.if-change-eq0.true)
+    remove_level step b (done b) c.uncount.ensures c.if-step-le-LEAF_LEAST.false (ap (to_z w64) c.if-change-eq0.true)
 
 pub child_changed-requires : goal.child_changed-requires
 child_changed-requires t c =
@@ -116,11 +116,11 @@ child_changed-requires t c =
     record { read = read; toward = record { to_left = c.toward-step.ensures.value; to_right = c.toward-step.ensures.value_2 } } in
     let done : (b : (ToRemove c.args.nodes.now c.args.n c.args.levels c.args.head.now c.args.length c.args.index)) → let call =
     c.remove_below-change in
-    Gone (to_child (step) b) call.new.nodes call.new.head (held call.result) call.new.bit =
+    Gone (to_child step b) call.new.nodes call.new.head (held call.result) call.new.bit =
     λ b. gone_held c.remove_below-change.result (record { sfits = c.remove_below-change.type_inv })
-    (c.remove_below-change.ensures (to_child (step) b)) in
+    (c.remove_below-change.ensures (to_child step b)) in
     let b = c.requires in
-    remove_stale (step) b (done b) c.uncount.ensures c.if-step-le-LEAF_LEAST.false
+    remove_stale step b (done b) c.uncount.ensures c.if-step-le-LEAF_LEAST.false
 
 pub returns-in-Leaf : goal.returns-in-Leaf
 returns-in-Leaf t c = λ b.
@@ -135,10 +135,10 @@ returns-else-change-eq0 t c =
     record { read = read; toward = record { to_left = c.toward-step.ensures.value; to_right = c.toward-step.ensures.value_2 } } in
     let done : (b : (ToRemove c.args.nodes.now c.args.n c.args.levels c.args.head.now c.args.length c.args.index)) → let call =
     c.remove_below-change in
-    Gone (to_child (step) b) call.new.nodes call.new.head (held call.result) call.new.bit =
+    Gone (to_child step b) call.new.nodes call.new.head (held call.result) call.new.bit =
     λ b. gone_held c.remove_below-change.result (record { sfits = c.remove_below-change.type_inv })
-    (c.remove_below-change.ensures (to_child (step) b)) in
+    (c.remove_below-change.ensures (to_child step b)) in
     λ b.
     let d = c.child_changed in
     gone_held d.result (record { sfits = d.type_inv })
-    (remove_leveled (step) b (done b) c.uncount.ensures c.if-step-le-LEAF_LEAST.false d.ensures)
+    (remove_leveled step b (done b) c.uncount.ensures c.if-step-le-LEAF_LEAST.false d.ensures)

@@ -63,7 +63,7 @@ overflow_sub-levels c =
     let within : let l = c.loop-leaf in
     (1 ≤ l.levels) × (c.in-Fork.fork.left_total ≤ l.len) = let here = at_fork c.requires.0 in
     (on_level here, on_fork here (λ m u v e q. reach_total m u v _ e q)) in
-    (within).0
+    within.0
 
 pub toward-step-requires : goal.toward-step-requires
 toward-step-requires c =
@@ -74,4 +74,4 @@ toward-step-requires c =
     let within : let l = c.loop-leaf in
     (1 ≤ l.levels) × (c.in-Fork.fork.left_total ≤ l.len) = let here = at_fork c.requires.0 in
     (on_level here, on_fork here (λ m u v e q. reach_total m u v _ e q)) in
-    (within).1
+    within.1

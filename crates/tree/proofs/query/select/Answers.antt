@@ -17,12 +17,12 @@ loop-leaf-init c = λ s. record { tree = s.tree; rooted = s.rooted; here = selec
 pub leaf_or_fork-requires : goal.leaf_or_fork-requires
 leaf_or_fork-requires c =
     let asked : TreeAt c.args.nodes.now c.args.root 12 c.args.length = tree_at c.requires.0 c.requires.1 c.requires.2 in
-    on_node (c.loop-leaf.invariant (asked))
+    on_node (c.loop-leaf.invariant asked)
 
 pub overflow_add-skip : goal.overflow_add-skip
 overflow_add-skip c =
     let asked : TreeAt c.args.nodes.now c.args.root 12 c.args.length = tree_at c.requires.0 c.requires.1 c.requires.2 in
-    omega (arith, (c.loop-leaf.invariant (asked)).here.less, c.ranges.k)
+    omega (arith, (c.loop-leaf.invariant asked).here.less, c.ranges.k)
 
 pub placed-requires : goal.placed-requires
 unfolding bits_of
@@ -112,7 +112,7 @@ overflow_sub-levels c =
       on_fork here (λ m u v e q. select_strikes m u v _ e q),
       omega (arith, within, size_bound 0 s.tree 12 s.rooted.sized s.rooted.deep),
     ) in
-    (says).0
+    says.0
 
 pub wanted-here-requires : goal.wanted-here-requires
 wanted-here-requires c =
@@ -129,4 +129,4 @@ wanted-here-requires c =
       on_fork here (λ m u v e q. select_strikes m u v _ e q),
       omega (arith, within, size_bound 0 s.tree 12 s.rooted.sized s.rooted.deep),
     ) in
-    (says).1
+    says.1

@@ -15,14 +15,14 @@ overflow_sub-balance c =
     let less_two : Apart (to_z w64 c.args.stored -ℤ pos 2) c.args.stored 2 = let e = to_z_pos w64 c.args.stored (omega arith) in
     let n : Apart (to_z w64 c.args.stored) c.args.stored 0 = rw e (some c.args.stored) in
     same _ c.args.stored 2 (minus (to_z w64 c.args.stored) (pos 2) n (some 2)) (omega arith) in
-    fits _ (less_two) (omega arith) (omega arith)
+    fits _ less_two (omega arith) (omega arith)
 
 pub overflow_sub-result : goal.overflow_sub-result
 overflow_sub-result c =
     let less_two : Apart (to_z w64 c.args.stored -ℤ pos 2) c.args.stored 2 = let e = to_z_pos w64 c.args.stored (omega arith) in
     let n : Apart (to_z w64 c.args.stored) c.args.stored 0 = rw e (some c.args.stored) in
     same _ c.args.stored 2 (minus (to_z w64 c.args.stored) (pos 2) n (some 2)) (omega arith) in
-    fits _ (opposite _ (less_two) (omega arith) (omega arith)) (omega arith) (omega arith)
+    fits _ (opposite _ less_two (omega arith) (omega arith)) (omega arith) (omega arith)
 
 pub returns-then-left : goal.returns-then-left
 returns-then-left c =
@@ -31,7 +31,7 @@ returns-then-left c =
     same _ c.args.stored 2 (minus (to_z w64 c.args.stored) (pos 2) n (some 2)) (omega arith) in
     λ x y p.
     let q : Stores true x y c.args.stored = rw c.if-left.true at p in
-    read _ (same _ x y (opposite _ (less_two) (omega arith) (omega arith)) (omega arith)) (omega arith) (omega arith)
+    read _ (same _ x y (opposite _ less_two (omega arith) (omega arith)) (omega arith)) (omega arith) (omega arith)
 
 pub returns : goal.returns
 returns c =
@@ -40,4 +40,4 @@ returns c =
     same _ c.args.stored 2 (minus (to_z w64 c.args.stored) (pos 2) n (some 2)) (omega arith) in
     λ x y p.
     let q : Stores false x y c.args.stored = rw c.if-left.false at p in
-    read _ (same _ x y (less_two) (omega arith)) (omega arith) (omega arith)
+    read _ (same _ x y less_two (omega arith)) (omega arith) (omega arith)

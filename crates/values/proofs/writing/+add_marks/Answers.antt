@@ -24,7 +24,7 @@ overflow_sub-below t c =
     λ s. stands_fork s c.leaf_or_fork.ensures c.in-Fork.is in
     let children :
     Parts c.args.nodes.now c.args.levels c.args.length c.in-Fork.fork c.requires.0.tree = parts c.requires.0 in
-    (children).level
+    children.level
 
 pub add_marks-first-requires : goal.add_marks-first-requires
 add_marks-first-requires t c =
@@ -44,7 +44,7 @@ overflow_sub-length t c =
     λ s. stands_fork s c.leaf_or_fork.ensures c.in-Fork.is in
     let children :
     Parts c.args.nodes.now c.args.levels c.args.length c.in-Fork.fork c.requires.0.tree = parts c.requires.0 in
-    (children).within
+    children.within
 
 pub add_marks-requires : goal.add_marks-requires
 add_marks-requires t c =
@@ -76,7 +76,7 @@ returns-in-Fork t c =
     Parts c.args.nodes.now c.args.levels c.args.length c.in-Fork.fork c.requires.0.tree = parts c.requires.0 in
     let a = c.add_marks-first.ensures in
     let b = c.add_marks.ensures in record {
-      moved = record { count = omega (arith, a.moved.count, b.moved.count, (children).within); part = b.moved.part };
+      moved = record { count = omega (arith, a.moved.count, b.moved.count, children.within); part = b.moved.part };
       adds = λ c.
           let q = parts c in
           let size = sym (size_marks q.left.tree) ∙ q.left.total in

@@ -81,7 +81,7 @@ build-built-requires c =
       given = omega (arith, t);
       enough = omega (arith, c.if-n-leaf_count.false, c.leaf_count.ensures);
     } in
-    fits_room (fits)
+    fits_room fits
 
 pub offset_bounds-pool-end : goal.offset_bounds-pool-end
 offset_bounds-pool-end c =

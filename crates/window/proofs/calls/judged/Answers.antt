@@ -16,7 +16,7 @@ returns-then-trailer-n c =
     (omega (arith, length-drop (c.args.n * 6) c.args.pool.now))) in
     λ x.
     let q = well_at c.args.pool.now c.args.n c.requires x in
-    c.if-trailer-n.true (rw (told) (stands_nodes c.args.pool.now c.args.n c.requires q.0 q.1))
+    c.if-trailer-n.true (rw told (stands_nodes c.args.pool.now c.args.n c.requires q.0 q.1))
 
 pub returns-then-trailer-ne0 : goal.returns-then-trailer-ne0
 returns-then-trailer-ne0 c =
@@ -26,7 +26,7 @@ returns-then-trailer-ne0 c =
     (omega (arith, length-drop (c.args.n * 6) c.args.pool.now))) in
     λ x.
     let q = well_at c.args.pool.now c.args.n c.requires x in
-    c.if-trailer-ne0.true (rw (told) (stands_last c.args.pool.now c.args.n c.requires q.0 q.1))
+    c.if-trailer-ne0.true (rw told (stands_last c.args.pool.now c.args.n c.requires q.0 q.1))
 
 pub slice_bounds-sound-end : goal.slice_bounds-sound-end
 slice_bounds-sound-end c =
@@ -58,7 +58,7 @@ returns c =
     (omega (arith, length-drop (c.args.n * 6) c.args.pool.now))) in
     λ x.
     let q = well_at c.args.pool.now c.args.n c.requires x in
-    let yes = (rw (told) at c.sound.ensures).no q.0
+    let yes = (rw told at c.sound.ensures).no q.0
     (stands_correct c.args.pool.now c.args.n c.requires q.0 q.1) in
     let no = c.if-sound.false in
     let never : ◌≡◌ {A = ℕ} 0 1 = cc in
