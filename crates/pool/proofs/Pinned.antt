@@ -14,10 +14,10 @@ use Rattle.pool.proofs.node.leaf_at.Reads as leaf_at
 use Rattle.pool.proofs.node.leaf_or_fork.Reads as leaf_or_fork
 use Rattle.pool.proofs.node.less_left.Reads as less_left
 use Rattle.pool.proofs.node.move_node.Reads as move_node
-use Rattle.pool.proofs.node.node_at.Reads as Node_at
+use Rattle.pool.proofs.node.node_at.Reads as node_at
 use Rattle.pool.proofs.node.node_count.Reads as node_count
 use Rattle.pool.proofs.node.set_fork.Reads as set_fork
-use Rattle.pool.proofs.node.set_free.Reads as set_Free
+use Rattle.pool.proofs.node.set_free.Reads as set_free
 use Rattle.pool.proofs.node.set_leaf.Reads as set_leaf
 use Rattle.pool.proofs.node.set_left.Reads as set_left
 
@@ -31,7 +31,7 @@ one_node (Fork f) (Leaf m) e = let never : ◌≡◌ {A = ℕ} 0 1 = cc in absur
 pub node_count_pinned : Pinned node_count.Post
 node_count_pinned κs a r r' w w' p q = p ∙ sym q
 
-pub node_at_pinned : Pinned Node_at.Post
+pub node_at_pinned : Pinned node_at.Post
 node_at_pinned κs a r r' w w' p q = p ∙ sym q
 
 pub leaf_or_fork_pinned : Pinned leaf_or_fork.Post
@@ -49,7 +49,7 @@ balance_at_pinned κs a r r' w w' p q = p ∙ sym q
 pub next_free_pinned : Pinned next_free.Post
 next_free_pinned κs a r r' w w' p q = p ∙ sym q
 
-pub set_free_pinned : (κs : _) (a : _) (r r' : _) (w w' : _) → set_Free.Post κs a r w → set_Free.Post κs a r' w' → w.0.now ≡ w'.0.now
+pub set_free_pinned : (κs : _) (a : _) (r r' : _) (w w' : _) → set_free.Post κs a r w → set_free.Post κs a r' w' → w.0.now ≡ w'.0.now
 set_free_pinned κs a r r' w w' p q = p ∙ sym q
 
 pub set_leaf_pinned : (κs : _) (a : _) (r r' : _) (w w' : _) → set_leaf.Post κs a r w → set_leaf.Post κs a r' w' → w.0.now ≡ w'.0.now

@@ -40,7 +40,7 @@ returns-then-next_size-le-LEAF_LEAST c =
     let next_is : (b : (ToMend c.args.nodes.now c.args.n c.args.levels c.args.head.now c.args.left c.args.length)) → c.next_size.result ≡ next b =
     λ b. c.next_size.ensures (to_measure b (read b)) in
     let lean : (b : (ToMend c.args.nodes.now c.args.n c.args.levels c.args.head.now c.args.left c.args.length)) → next b ≤ 33 =
-    λ b. omega (arith, next_is b, c.if-next_size-le-LEAF_LEAST.true) in
+    λ x. omega (arith, next_is x, c.if-next_size-le-LEAF_LEAST.true) in
     λ b.
     let is = read b in
     mend_joined b is (lean b) (c.merge.ensures (to_merge b is (lean b)))
@@ -68,7 +68,7 @@ returns c =
     let next_is : (b : (ToMend c.args.nodes.now c.args.n c.args.levels c.args.head.now c.args.left c.args.length)) → c.next_size.result ≡ next b =
     λ b. c.next_size.ensures (to_measure b (read b)) in
     let rich : (b : (ToMend c.args.nodes.now c.args.n c.args.levels c.args.head.now c.args.left c.args.length)) → 33 < next b =
-    λ b. omega (arith, next_is b, c.if-next_size-le-LEAF_LEAST.false) in
+    λ x. omega (arith, next_is x, c.if-next_size-le-LEAF_LEAST.false) in
     λ b.
     let is = read b in
     mend_lent b is (rich b) (c.borrow.ensures (to_borrow b is (rich b)))
