@@ -156,9 +156,9 @@ fn answered(r: Request) -> Answer {
 
 // Answers the first `count` requests, and says how many bytes the answers take.
 fn answer_each(asked: &[u8], count: usize, told: &mut [u8]) -> usize
-    requires count_in_bounds { count * 48 ≤ length asked.now }
-    requires count_in_bounds_2 { count * 32 ≤ length told.old }
-    ensures in_bounds { result ≤ length told.new }
+    requires asked_holds_count { count * 48 ≤ length asked.now }
+    requires told_has_room { count * 32 ≤ length told.old }
+    ensures within { result ≤ length told.new }
     ensures part { result ≡ length (take result told.new) }
 {
     let mut i = 0;

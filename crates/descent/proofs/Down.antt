@@ -84,6 +84,11 @@ pub record Stepped (w : List ℕ) (n total index : ℕ) (f : Fork) (s : Step) : 
   pub read : node_at w n ≡ Node.Fork f
   pub toward : Toward f total index s
 
+-- the same of what a read and a step ensure
+pub stepped : {w : List ℕ} {n total index : ℕ} {f : Fork} {s : Step} → node_at w n ≡ Node.Fork f
+    → (index < f.left_total → s ≡ step_left f index) → (f.left_total ≤ index → s ≡ step_right f total index) → Stepped w n total index f s
+stepped read left right = record { read = read; toward = record { to_left = left; to_right = right } }
+
 -- ---- the child that a step leads to
 
 -- what was read tells the fork's children, and of them the one that the step leads to

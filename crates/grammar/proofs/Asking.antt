@@ -10,7 +10,7 @@ use lib.Dec.{eqb, leb, ltb}
 use lib.ListN.{length, take, drop, length-drop}
 use lib.Seq.{take_all}
 use borrow.Author.Tests.{eqb-true, le-ltb}
-use Rattle.text.specs.Bytes.{index_after, index_of}
+use Rattle.text.specs.Bytes.{index_of}
 use Rattle.model.proofs.Cases.{by_ltb, by_test}
 use Rattle.model.specs.Word.{digit}
 use Rattle.order.specs.Asked.{Asked, asks, with_bit}
@@ -27,14 +27,14 @@ use Rattle.text.proofs.Digits.{numeral_not}
 
 -- a text with a space is not all digits
 spaced_digits : (base : ℕ) → base ≤ 16 → (bs : List ℕ) → index_of space bs < length bs → all_digits base bs ≡ false
-unfolding all_digits index_of index_after worth
+unfolding all_digits index_of worth
 spaced_digits base most [] h = absurd (omega arith)
 spaced_digits base most (b ∷ bs) h =
     by_test (eqb b space)
     (λ e. rw (eqb-true b space e, le-ltb 16 base most))
     (λ e.
     let later : all_digits base bs ≡ false =
-    spaced_digits base most bs (let less : suc (index_of space bs) < suc (length bs) = rw e at h in omega arith) in
+    spaced_digits base most bs (let less : suc (index_of space bs) < suc (length bs) = rw (index_of, e) at h in omega arith) in
     by_test (ltb (worth b) base) (λ t. rw t later) (λ t. rw t))
 
 -- and no decimal
@@ -162,7 +162,8 @@ module _ (fs : List (List ℕ)) where
   -- the same of rank
   pub rank_line : line_of Rank fs ≡ two_numbers fs (λ b i. order_with b (asks_with 4 i))
   unfolding line_of asks with_bit digit
-  rank_line = ap (λ (f : ℕ → Bool → Asked). two_numbers fs (λ b i. order_with b (f i))) (fun_ext (λ x. fun_ext (elim [ true ↦ refl | false ↦ refl ])))
+  rank_line = ap (λ (f : ℕ → Bool → Asked). two_numbers fs (λ b i. order_with b (f i))) (fun_ext (λ x. fun_ext
+      (elim [ true ↦ refl | false ↦ refl ])))
 
   -- and of select
   pub select_line : line_of Select fs ≡ two_numbers fs (λ b i. order_with b (asks_with 5 i))

@@ -6,7 +6,7 @@ use mathlib.Core.List.{List, [], ◌∷◌}
 use lib.Dec.{eqb}
 use lib.ListN.{length, take, drop, drop_of_length-le}
 use lib.Seq.{drop-drop, drop-length, take_all, take-length}
-use Rattle.text.specs.Bytes.{index_after, index_of, slice}
+use Rattle.text.specs.Bytes.{index_of, slice}
 use Rattle.model.proofs.Cases.{by_ltb, by_test}
 use Rattle.text.proofs.Cutting.{pieces_more, pieces_one}
 use Rattle.text.specs.Text.{closed, lines}
@@ -17,13 +17,14 @@ use Rattle.script.specs.Prints.{State, line_text, most_input, too_long}
 use Rattle.script.specs.Playing.{after_line, desk, first_line, Keeps, Played, LinePlayed}
 
 pub first_is : (bs : List ℕ) → first_line bs ≡ take (index_of newline bs) bs
-unfolding first_line index_of index_after
+unfolding first_line index_of
 first_is [] = refl
 first_is (b ∷ bs) =
-    by_test (eqb b newline) (λ e. rw (first_line, index_of, e) refl) (λ e. rw (first_line, index_of, e) (ap (λ (l : List ℕ). b ∷ l) (first_is bs)))
+    by_test (eqb b newline) (λ e. rw (first_line, index_of, e) refl) (λ e. rw (first_line, index_of, e) (ap (λ (l : List ℕ). b ∷ l)
+    (first_is bs)))
 
 pub after_is : (bs : List ℕ) → after_line bs ≡ drop (suc (index_of newline bs)) bs
-unfolding after_line index_of index_after
+unfolding after_line index_of
 after_is [] = refl
 after_is (b ∷ bs) = by_test (eqb b newline) (λ e. rw (after_line, index_of, e) refl) (λ e. rw (after_line, index_of, e) (after_is bs))
 

@@ -9,34 +9,37 @@ use lib.Dec.{eqb}
 use lib.ListN.{length, take, drop, get_or, drop_of_length-le}
 use lib.Seq.{drop-cons}
 use borrow.Author.Tests.{eq-eqb, ne_eqb}
-use Rattle.text.specs.Bytes.{index_after, index_of}
+use Rattle.text.specs.Bytes.{index_of}
 use Rattle.model.proofs.Cases.{by_ltb, by_test}
 use Rattle.text.specs.Text.{onto_first, pieces, same}
 
 module _ (mark : ℕ) where
   pub index_within : (bs : List ℕ) → index_of mark bs ≤ length bs
-  unfolding index_of index_after
+  unfolding index_of
   index_within [] = omega arith
-  index_within (b ∷ bs) = by_test (eqb b mark) (λ e. rw e (omega arith)) (λ e. rw e (let within = index_within bs in omega arith))
+  index_within (b ∷ bs) = by_test (eqb b mark) (λ e. rw (index_of, e) (omega arith)) (λ e. rw (index_of, e)
+      (let within = index_within bs in omega arith))
 
   -- no mark: one piece
   pub pieces_one : (bs : List ℕ) → length bs ≤ index_of mark bs → pieces mark bs ≡ bs ∷ []
-  unfolding pieces onto_first index_of index_after
+  unfolding pieces onto_first index_of
   pieces_one [] h = refl
   pieces_one (b ∷ bs) h =
       by_test (eqb b mark)
-      (λ e. absurd (let none_less : suc (length bs) ≤ 0 = rw e at h in omega arith))
-      (λ e. rw (pieces, e) (ap (onto_first b) (pieces_one bs (let less : suc (length bs) ≤ suc (index_of mark bs) = rw e at h in omega arith))))
+      (λ e. absurd (let none_less : suc (length bs) ≤ 0 = rw (index_of, e) at h in omega arith))
+      (λ e. rw (pieces, e) (ap (onto_first b) (pieces_one bs (let less : suc (length bs) ≤ suc (index_of mark bs) = rw
+      (index_of, e) at h in omega arith))))
 
   -- what stands before the first mark, and the pieces of what stands behind it
   pub pieces_more : (bs : List ℕ) → index_of mark bs < length bs
       → pieces mark bs ≡ take (index_of mark bs) bs ∷ pieces mark (drop (suc (index_of mark bs)) bs)
-  unfolding pieces onto_first index_of index_after
+  unfolding pieces onto_first index_of
   pieces_more [] h = absurd (omega arith)
   pieces_more (b ∷ bs) h =
       by_test (eqb b mark)
-      (λ e. rw (pieces, e))
-      (λ e. rw (pieces, e) (ap (onto_first b) (pieces_more bs (let less : suc (index_of mark bs) < suc (length bs) = rw e at h in omega arith))))
+      (λ e. rw (pieces, index_of, e))
+      (λ e. rw (pieces, index_of, e) (ap (onto_first b) (pieces_more bs (let less : suc (index_of mark bs) < suc (length bs) = rw
+      (index_of, e) at h in omega arith))))
 
   -- both ways
   pub by_mark : {P : Type 0} (bs : List ℕ) → (length bs ≤ index_of mark bs → P) → (index_of mark bs < length bs → P) → P

@@ -5,7 +5,7 @@ use lib.ListN.{drop_of_length-le}
 use lib.Seq.{drop-cons, length-take-le}
 use borrow.Author.Tests.{eq-eqb, ne_eqb}
 use Rattle.std.proofs.lemmas.List.{get_or-take}
-use Rattle.text.specs.Bytes.{index_after, index_of, slice}
+use Rattle.text.specs.Bytes.{index_of, slice}
 
 module _ (byte : ℕ) (bs : List ℕ) (i to : ℕ) (less : i < to) (within : to ≤ length bs) where
   -- the stretch begins with the byte at its first place
@@ -18,13 +18,13 @@ module _ (byte : ℕ) (bs : List ℕ) (i to : ℕ) (less : i < to) (within : to 
 
   -- it is the one that is sought
   pub sought_here : get_or bs i 0 ≡ byte → i + index_of byte (slice i to bs) ≡ i
-  unfolding index_of index_after
-  sought_here e = rw (slice_more, eq-eqb (get_or bs i 0) byte e) (omega arith)
+  unfolding index_of
+  sought_here e = rw (slice_more, index_of, eq-eqb (get_or bs i 0) byte e) (omega arith)
 
   -- it is another one
   pub sought_on : (get_or bs i 0 ≡ byte → ⊥) → i + index_of byte (slice i to bs) ≡ i + 1 + index_of byte (slice (i + 1) to bs)
-  unfolding index_of index_after
-  sought_on n = rw (slice_more, ne_eqb (get_or bs i 0) byte n, add-one i) (omega arith)
+  unfolding index_of
+  sought_on n = rw (slice_more, index_of, ne_eqb (get_or bs i 0) byte n, add-one i) (omega arith)
 
 -- nothing is left of the stretch
 pub sought_end : (byte : ℕ) (bs : List ℕ) (to : ℕ) → to ≤ length bs → to + index_of byte (slice to to bs) ≡ to

@@ -18,8 +18,8 @@ pub struct Step {
 // chosen by itself, and so without a jump, which a walk to any place would have the processor guess.
 pub fn toward(fork: Fork, length: u64, index: u64) -> Step
     requires { fork.left_total ≤ length }
-    ensures value { index < fork.left_total → result ≡ step_left fork index }
-    ensures value_2 { fork.left_total ≤ index → result ≡ step_right fork length index }
+    ensures to_left { index < fork.left_total → result ≡ step_left fork index }
+    ensures to_right { fork.left_total ≤ index → result ≡ step_right fork length index }
 {
     let left = index < fork.left_total;
     Step {

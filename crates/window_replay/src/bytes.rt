@@ -43,8 +43,8 @@ pub fn put_word(bytes: &mut [u8], at: usize, word: u64)
 
 // Reads so many words from a place on.
 pub fn read_words(bytes: &[u8], from: usize, words: &mut [u64], count: usize)
-    requires count_in_bounds { from + count * 8 ≤ length bytes.now }
-    requires count_in_bounds_2 { count ≤ length words.old }
+    requires bytes_reach { from + count * 8 ≤ length bytes.now }
+    requires words_reach { count ≤ length words.old }
 {
     let mut i = 0;
     while i < count {
@@ -55,8 +55,8 @@ pub fn read_words(bytes: &[u8], from: usize, words: &mut [u64], count: usize)
 
 // Puts the first words, so many, at a place.
 pub fn put_words(bytes: &mut [u8], at: usize, words: &[u64], count: usize)
-    requires count_in_bounds { at + count * 8 ≤ length bytes.old }
-    requires count_in_bounds_2 { count ≤ length words.now }
+    requires bytes_reach { at + count * 8 ≤ length bytes.old }
+    requires words_reach { count ≤ length words.now }
 {
     let mut i = 0;
     while i < count {

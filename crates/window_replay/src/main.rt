@@ -145,11 +145,11 @@ fn read_lists<R: Read>(
     words: &mut [u64],
     asked: &mut [u64],
 ) -> io::Result<bool>
-    requires count_bound { count ≤ 520 }
-    requires orders_bound { orders ≤ 4096 }
-    requires bound { 102464 ≤ ListN.length lists.old }
-    requires bound_2 { 520 ≤ ListN.length words.old }
-    requires bound_3 { 12288 ≤ ListN.length asked.old }
+    requires count_fits { count ≤ 520 }
+    requires orders_fits { orders ≤ 4096 }
+    requires lists_room { 102464 ≤ ListN.length lists.old }
+    requires words_room { 520 ≤ ListN.length words.old }
+    requires asked_room { 12288 ≤ ListN.length asked.old }
 {
     let first = count * 8;
     let both = first + orders * 24;
@@ -172,7 +172,7 @@ struct Sizes {
 // Puts the lists of an answer behind its first eight words, and says how many bytes it then has.
 fn put_lists(told: &mut [u8], replies: &[u64], out: &[u64], pool: &[u64], sizes: Sizes) -> usize
     requires shown { Shown sizes replies.now out.now pool.now }
-    requires bound { 118960 ≤ ListN.length told.old }
+    requires told_room { 118960 ≤ ListN.length told.old }
     ensures { result ≤ 118960 }
 {
     let after_replies = 64 + sizes.two * 8;
@@ -196,11 +196,11 @@ fn serve_parts(
     replies: &mut [u64],
     out: &mut [u64],
 ) -> Calls
-    requires size_bound { size ≤ ListN.length pool.old }
-    requires count_bound { count ≤ ListN.length words.now }
-    requires orders_bound { orders * 3 ≤ ListN.length asked.now }
-    requires orders_bound_2 { orders * 2 ≤ ListN.length replies.old }
-    requires room_bound { room ≤ ListN.length out.old }
+    requires size_fits { size ≤ ListN.length pool.old }
+    requires count_fits { count ≤ ListN.length words.now }
+    requires orders_fits { orders * 3 ≤ ListN.length asked.now }
+    requires replies_room { orders * 2 ≤ ListN.length replies.old }
+    requires room_fits { room ≤ ListN.length out.old }
 {
     serve(
         r,
@@ -244,15 +244,15 @@ fn serve_and_tell<W: Write>(
     pool: &mut [u64],
     shown: usize,
 ) -> io::Result<()>
-    requires size_bound { size ≤ 6150 }
-    requires shown_bound { shown ≤ 6150 }
-    requires count_bound { count ≤ ListN.length words.now }
-    requires orders_bound { orders ≤ 4096 }
-    requires room_bound { room ≤ 520 }
-    requires bound { 12288 ≤ ListN.length asked.now }
-    requires bound_2 { 8192 ≤ ListN.length replies.old }
-    requires bound_3 { 520 ≤ ListN.length out.old }
-    requires bound_4 { 6150 ≤ ListN.length pool.old }
+    requires size_fits { size ≤ 6150 }
+    requires shown_fits { shown ≤ 6150 }
+    requires count_fits { count ≤ ListN.length words.now }
+    requires orders_fits { orders ≤ 4096 }
+    requires room_fits { room ≤ 520 }
+    requires asked_room { 12288 ≤ ListN.length asked.now }
+    requires replies_room { 8192 ≤ ListN.length replies.old }
+    requires out_room { 520 ≤ ListN.length out.old }
+    requires pool_room { 6150 ≤ ListN.length pool.old }
 {
     let calls = serve_parts(
         size, count, orders, room, r, pool, words, asked, replies, out,
@@ -277,12 +277,12 @@ fn answer_to<R: Read, W: Write>(
     out: &mut [u64],
     pool: &mut [u64],
 ) -> io::Result<bool>
-    requires bound { 102464 ≤ ListN.length lists.old }
-    requires bound_2 { 520 ≤ ListN.length words.old }
-    requires bound_3 { 12288 ≤ ListN.length asked.old }
-    requires bound_4 { 8192 ≤ ListN.length replies.old }
-    requires bound_5 { 520 ≤ ListN.length out.old }
-    requires bound_6 { 6150 ≤ ListN.length pool.old }
+    requires lists_room { 102464 ≤ ListN.length lists.old }
+    requires words_room { 520 ≤ ListN.length words.old }
+    requires asked_room { 12288 ≤ ListN.length asked.old }
+    requires replies_room { 8192 ≤ ListN.length replies.old }
+    requires out_room { 520 ≤ ListN.length out.old }
+    requires pool_room { 6150 ≤ ListN.length pool.old }
 {
     let size = r.size as usize;
     let count = r.count as usize;

@@ -1,7 +1,6 @@
 -- A leaf's marks go by; at a fork those of its left child do, and then those of its right one. Assumes nothing.
 use native.Mathlib.Omega.{arith}
-use Rattle.tree.specs.TreeAt.{TreeAt}
-use Rattle.tree.proofs.Down.{Parts, stands_node, stands_leaf, stands_fork}
+use Rattle.tree.proofs.Down.{stands_node, stands_leaf, stands_fork}
 use Rattle.quiet.proofs.Visited.{leaf_visited, left_since, fork_visited}
 use Rattle.quiet.proofs.longest.+after_tree.Goals as goal
 
@@ -15,45 +14,20 @@ after_leaf-requires t c =
     (omega (arith, lone.small), p.1)
 
 pub overflow_sub-below : goal.overflow_sub-below
-overflow_sub-below t c =
-    let parts : let a = c.args in
-    (s : TreeAt a.nodes.now a.n a.levels a.length) → Parts a.nodes.now a.levels a.length c.in-Fork.fork s.tree =
-    λ s. stands_fork s c.leaf_or_fork.ensures c.in-Fork.is in
-    let children :
-    Parts c.args.nodes.now c.args.levels c.args.length c.in-Fork.fork c.requires.0.tree = parts c.requires.0 in
-    children.level
+overflow_sub-below t c = (stands_fork c.requires.0 c.leaf_or_fork.ensures c.in-Fork.is).level
 
 pub after_tree-first-requires : goal.after_tree-first-requires
 after_tree-first-requires t c =
-    let parts : let a = c.args in
-    (s : TreeAt a.nodes.now a.n a.levels a.length) → Parts a.nodes.now a.levels a.length c.in-Fork.fork s.tree =
-    λ s. stands_fork s c.leaf_or_fork.ensures c.in-Fork.is in
-    let children :
-    Parts c.args.nodes.now c.args.levels c.args.length c.in-Fork.fork c.requires.0.tree = parts c.requires.0 in
-    let p = c.requires in
-    let q = children in
-    (omega (arith, c.decreases, q.level), (q.left, omega (arith, p.1, q.within)))
+    let q = stands_fork c.requires.0 c.leaf_or_fork.ensures c.in-Fork.is in
+    (omega (arith, c.decreases, q.level), (q.left, omega (arith, c.requires.1, q.within)))
 
 pub overflow_sub-length : goal.overflow_sub-length
-overflow_sub-length t c =
-    let parts : let a = c.args in
-    (s : TreeAt a.nodes.now a.n a.levels a.length) → Parts a.nodes.now a.levels a.length c.in-Fork.fork s.tree =
-    λ s. stands_fork s c.leaf_or_fork.ensures c.in-Fork.is in
-    let children :
-    Parts c.args.nodes.now c.args.levels c.args.length c.in-Fork.fork c.requires.0.tree = parts c.requires.0 in
-    children.within
+overflow_sub-length t c = (stands_fork c.requires.0 c.leaf_or_fork.ensures c.in-Fork.is).within
 
 pub after_tree-requires : goal.after_tree-requires
 after_tree-requires t c =
-    let parts : let a = c.args in
-    (s : TreeAt a.nodes.now a.n a.levels a.length) → Parts a.nodes.now a.levels a.length c.in-Fork.fork s.tree =
-    λ s. stands_fork s c.leaf_or_fork.ensures c.in-Fork.is in
-    let children :
-    Parts c.args.nodes.now c.args.levels c.args.length c.in-Fork.fork c.requires.0.tree = parts c.requires.0 in
-    let p = c.requires in
-    let q = children in
-    let since = left_since q _ (c.after_tree-first.ensures q.left) in
-    (omega (arith, c.decreases, q.level), (q.right, omega (arith, p.1, since, q.within)))
+    let q = stands_fork c.requires.0 c.leaf_or_fork.ensures c.in-Fork.is in
+    (omega (arith, c.decreases, q.level), (q.right, omega (arith, c.requires.1, (left_since q _ (c.after_tree-first.ensures q.left)), q.within)))
 
 pub returns-in-Leaf : goal.returns-in-Leaf
 returns-in-Leaf t c = λ s.
@@ -61,9 +35,6 @@ returns-in-Leaf t c = λ s.
 
 pub returns-in-Fork : goal.returns-in-Fork
 returns-in-Fork t c =
-    let parts : let a = c.args in
-    (s : TreeAt a.nodes.now a.n a.levels a.length) → Parts a.nodes.now a.levels a.length c.in-Fork.fork s.tree =
-    λ s. stands_fork s c.leaf_or_fork.ensures c.in-Fork.is in
     λ s.
-    let q = parts s in
+    let q = stands_fork s c.leaf_or_fork.ensures c.in-Fork.is in
     fork_visited q _ (c.after_tree-first.ensures q.left) (c.after_tree.ensures q.right)

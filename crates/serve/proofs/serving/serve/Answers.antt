@@ -1,7 +1,6 @@
 -- The order's number chooses the call, and the words beside it are tested; what is no order is malformed. Assumes nothing.
 use borrow.Author.Rules.{rules}
-use mathlib.Core.Path.{◌≡◌, ◌∙◌}
-use Rattle.order.specs.Asked.{accessing, asks, inserting, quiet, ranking, removing, selecting, with_bit, with_zero}
+use mathlib.Core.Path.{◌∙◌}
 use Rattle.order.proofs.Asking.{asks_access, asks_insert, asks_nothing, asks_quiet, asks_rank, asks_remove, asks_select}
 use Rattle.order.proofs.Asking.{bit_clear, bit_set, is_zero, no_bit, no_zero}
 use Rattle.serve.proofs.Edits.{asked, grown, malformed, serves_as}
@@ -32,115 +31,83 @@ quiet_of-requires c = let s = c.requires in (s.1.tree, grown s.2)
 
 pub returns-in-0 : goal.returns-in-0
 returns-in-0 c =
-    let insert : let a = c.args in
-    asks a.number a.second a.third ≡ with_bit a.third (inserting a.second) = asks_insert _ _ _ c.in-1.is in
-    λ end p s. serves_as s (insert
+    λ end p s. serves_as s ((asks_insert _ _ _ c.in-1.is)
     ∙ bit_clear _ _ c.in-0.is) (c.insert_at.ensures end p s)
 
 pub returns-in-1-third : goal.returns-in-1-third
 returns-in-1-third c =
-    let insert : let a = c.args in
-    asks a.number a.second a.third ≡ with_bit a.third (inserting a.second) = asks_insert _ _ _ c.in-1.is in
-    λ end p s. serves_as s (insert
+    λ end p s. serves_as s ((asks_insert _ _ _ c.in-1.is)
     ∙ bit_set _ _ c.in-1-third.is) (c.insert_at-in-1-third.ensures end p s)
 
 pub returns-in_default-third : goal.returns-in_default-third
 returns-in_default-third c =
-    let insert : let a = c.args in
-    asks a.number a.second a.third ≡ with_bit a.third (inserting a.second) = asks_insert _ _ _ c.in-1.is in
-    λ end p s. malformed s (insert ∙ no_bit _ _ (search rules) (search rules))
+    λ end p s. malformed s ((asks_insert _ _ _ c.in-1.is) ∙ no_bit _ _ (search rules) (search rules))
     c.unmoved.ensures
 
 pub returns-in-0-third : goal.returns-in-0-third
 returns-in-0-third c =
-    let remove : let a = c.args in
-    asks a.number a.second a.third ≡ with_zero a.third (removing a.second) = asks_remove _ _ _ c.in-2.is in
-    λ end p s. serves_as s (remove
+    λ end p s. serves_as s ((asks_remove _ _ _ c.in-2.is)
     ∙ is_zero _ _ c.in-0-third.is) (c.remove_at.ensures end p s)
 
 pub returns-in_default-third-2 : goal.returns-in_default-third-2
 returns-in_default-third-2 c =
-    let remove : let a = c.args in
-    asks a.number a.second a.third ≡ with_zero a.third (removing a.second) = asks_remove _ _ _ c.in-2.is in
-    λ end p s. malformed s (remove ∙ no_zero _ _ (search rules)) c.unmoved-in_default-third-2.ensures
+    λ end p s. malformed s ((asks_remove _ _ _ c.in-2.is) ∙ no_zero _ _ (search rules)) c.unmoved-in_default-third-2.ensures
 
 -- ---- questions
 
 pub returns-in-0-third-2 : goal.returns-in-0-third-2
 returns-in-0-third-2 c =
-    let access : let a = c.args in
-    asks a.number a.second a.third ≡ with_zero a.third (accessing a.second) = asks_access _ _ _ c.in-3.is in
-    λ end p s. asked s (access ∙ is_zero _ _ c.in-0-third-2.is)
+    λ end p s. asked s ((asks_access _ _ _ c.in-3.is) ∙ is_zero _ _ c.in-0-third-2.is)
     (access_asks _) (c.access_at.ensures p.tree (grown s)) c.unmoved-in-0-third-2.ensures
 
 pub returns-in_default-third-3 : goal.returns-in_default-third-3
 returns-in_default-third-3 c =
-    let access : let a = c.args in
-    asks a.number a.second a.third ≡ with_zero a.third (accessing a.second) = asks_access _ _ _ c.in-3.is in
-    λ end p s. malformed s (access ∙ no_zero _ _ (search rules)) c.unmoved-in_default-third-3.ensures
+    λ end p s. malformed s ((asks_access _ _ _ c.in-3.is) ∙ no_zero _ _ (search rules)) c.unmoved-in_default-third-3.ensures
 
 pub returns-in-0-third-3 : goal.returns-in-0-third-3
 returns-in-0-third-3 c =
-    let rank : let a = c.args in
-    asks a.number a.second a.third ≡ with_bit a.third (ranking a.second) = asks_rank _ _ _ c.in-4.is in
-    λ end p s. asked s (rank ∙ bit_clear _ _ c.in-0-third-3.is)
+    λ end p s. asked s ((asks_rank _ _ _ c.in-4.is) ∙ bit_clear _ _ c.in-0-third-3.is)
     (rank_asks _ _) (c.rank_at.ensures p.tree (grown s)) c.unmoved-in-0-third-3.ensures
 
 pub returns-in-1-third-2 : goal.returns-in-1-third-2
 returns-in-1-third-2 c =
-    let rank : let a = c.args in
-    asks a.number a.second a.third ≡ with_bit a.third (ranking a.second) = asks_rank _ _ _ c.in-4.is in
-    λ end p s. asked s (rank ∙ bit_set _ _ c.in-1-third-2.is) (rank_asks _ _)
+    λ end p s. asked s ((asks_rank _ _ _ c.in-4.is) ∙ bit_set _ _ c.in-1-third-2.is) (rank_asks _ _)
     (c.rank_at-in-1-third-2.ensures p.tree (grown s)) c.unmoved-in-1-third-2.ensures
 
 pub returns-in_default-third-4 : goal.returns-in_default-third-4
 returns-in_default-third-4 c =
-    let rank : let a = c.args in
-    asks a.number a.second a.third ≡ with_bit a.third (ranking a.second) = asks_rank _ _ _ c.in-4.is in
-    λ end p s. malformed s (rank ∙ no_bit _ _ (search rules) (search rules))
+    λ end p s. malformed s ((asks_rank _ _ _ c.in-4.is) ∙ no_bit _ _ (search rules) (search rules))
     c.unmoved-in_default-third-4.ensures
 
 pub returns-in-0-third-4 : goal.returns-in-0-third-4
 returns-in-0-third-4 c =
-    let select : let a = c.args in
-    asks a.number a.second a.third ≡ with_bit a.third (selecting a.second) = asks_select _ _ _ c.in-5.is in
-    λ end p s. asked s (select ∙ bit_clear _ _ c.in-0-third-4.is)
+    λ end p s. asked s ((asks_select _ _ _ c.in-5.is) ∙ bit_clear _ _ c.in-0-third-4.is)
     (select_asks _ _) (c.select_at.ensures p.tree (grown s)) c.unmoved-in-0-third-4.ensures
 
 pub returns-in-1-third-3 : goal.returns-in-1-third-3
 returns-in-1-third-3 c =
-    let select : let a = c.args in
-    asks a.number a.second a.third ≡ with_bit a.third (selecting a.second) = asks_select _ _ _ c.in-5.is in
-    λ end p s. asked s (select ∙ bit_set _ _ c.in-1-third-3.is)
+    λ end p s. asked s ((asks_select _ _ _ c.in-5.is) ∙ bit_set _ _ c.in-1-third-3.is)
     (select_asks _ _) (c.select_at-in-1-third-3.ensures p.tree (grown s)) c.unmoved-in-1-third-3.ensures
 
 pub returns-in_default-third-5 : goal.returns-in_default-third-5
 returns-in_default-third-5 c =
-    let select : let a = c.args in
-    asks a.number a.second a.third ≡ with_bit a.third (selecting a.second) = asks_select _ _ _ c.in-5.is in
-    λ end p s. malformed s (select ∙ no_bit _ _ (search rules) (search rules))
+    λ end p s. malformed s ((asks_select _ _ _ c.in-5.is) ∙ no_bit _ _ (search rules) (search rules))
     c.unmoved-in_default-third-5.ensures
 
 pub returns-in-0-third-5 : goal.returns-in-0-third-5
 returns-in-0-third-5 c =
-    let longest : let a = c.args in
-    asks a.number a.second a.third ≡ with_zero a.second (with_zero a.third quiet) = asks_quiet _ _ _ c.in-6.is in
-    let lone : let a = c.args in asks a.number a.second a.third ≡ with_zero a.third quiet = longest ∙ is_zero c.args.second _ c.in-0-second.is in
+    let lone = (asks_quiet _ _ _ c.in-6.is) ∙ is_zero c.args.second _ c.in-0-second.is in
     λ end p s. asked s (lone ∙ is_zero _ _ c.in-0-third-5.is) quiet_asks
     (c.quiet_of.ensures p.tree (grown s)) c.unmoved-in-0-third-5.ensures
 
 pub returns-in_default-third-6 : goal.returns-in_default-third-6
 returns-in_default-third-6 c =
-    let longest : let a = c.args in
-    asks a.number a.second a.third ≡ with_zero a.second (with_zero a.third quiet) = asks_quiet _ _ _ c.in-6.is in
-    let lone : let a = c.args in asks a.number a.second a.third ≡ with_zero a.third quiet = longest ∙ is_zero c.args.second _ c.in-0-second.is in
+    let lone = (asks_quiet _ _ _ c.in-6.is) ∙ is_zero c.args.second _ c.in-0-second.is in
     λ end p s. malformed s (lone ∙ no_zero _ _ (search rules)) c.unmoved-in_default-third-6.ensures
 
 pub returns-in_default-second : goal.returns-in_default-second
 returns-in_default-second c =
-    let longest : let a = c.args in
-    asks a.number a.second a.third ≡ with_zero a.second (with_zero a.third quiet) = asks_quiet _ _ _ c.in-6.is in
-    λ end p s. malformed s (longest ∙ no_zero _ _ (search rules)) c.unmoved-in_default-second.ensures
+    λ end p s. malformed s ((asks_quiet _ _ _ c.in-6.is) ∙ no_zero _ _ (search rules)) c.unmoved-in_default-second.ensures
 
 -- ---- no order
 

@@ -1,15 +1,12 @@
 -- A leaf loses the mark; a fork's child does, the fork counts it no more, and then it is mended, left as it is, or
 -- balanced. Assumes nothing.
 use native.Mathlib.Omega.{arith}
-use mathlib.Core.Path.{◌≡◌, sym, ap, ◌∙◌}
+use mathlib.Core.Path.{sym, ap, ◌∙◌}
 use mir.Syntax.{w64}
 use mir.Val.{to_z}
-use Rattle.pool.specs.Node.{as_node, node_at}
-use Rattle.pool.specs.declared.node.Node.TheVariants as Node
+use Rattle.pool.specs.Node.{as_node}
 use Rattle.pool.proofs.Standing.{rooted_node}
-use Rattle.turn.proofs.Differences.{held}
-use Rattle.descent.proofs.Down.{Stepped, fork_level, left_within}
-use Rattle.shrink.specs.Removing.{Gone, ToRemove}
+use Rattle.descent.proofs.Down.{stepped, fork_level, left_within}
 use Rattle.shrink.proofs.Descending.{gone_held, remove_level, remove_leveled, remove_mended, remove_stale, removed_at_leaf}
 use Rattle.shrink.proofs.Descending.{to_child, to_mend, to_uncount}
 use Rattle.shrink.proofs.removing.+remove_below.Goals as goal
@@ -21,40 +18,25 @@ leaf_or_fork-requires t c = let b = c.requires in rooted_node b.at.tree b.at.sit
 
 pub toward-step-requires : goal.toward-step-requires
 toward-step-requires t c =
-    let read : node_at c.args.nodes.now c.args.n ≡ Node.Fork c.in-Fork.fork = sym c.leaf_or_fork.ensures ∙ ap as_node c.in-Fork.is in
     let b = c.requires in
-    left_within b.at.site.rooted read b.at.total_is
+    left_within b.at.site.rooted (sym c.leaf_or_fork.ensures ∙ ap as_node c.in-Fork.is) b.at.total_is
 
 pub overflow_sub-below : goal.overflow_sub-below
 overflow_sub-below t c =
-    let read : node_at c.args.nodes.now c.args.n ≡ Node.Fork c.in-Fork.fork = sym c.leaf_or_fork.ensures ∙ ap as_node c.in-Fork.is in
-    let step : let a = c.args in
-    Stepped a.nodes.now a.n a.length a.index c.in-Fork.fork c.toward-step.result =
-    record { read = read; toward = record { to_left = c.toward-step.ensures.value; to_right = c.toward-step.ensures.value_2 } } in
+    let step = stepped (sym c.leaf_or_fork.ensures ∙ ap as_node c.in-Fork.is) c.toward-step.ensures.to_left c.toward-step.ensures.to_right in
     fork_level c.requires.at.site.rooted step.read
 
 pub remove_below-change-requires : goal.remove_below-change-requires
 remove_below-change-requires t c =
-    let read : node_at c.args.nodes.now c.args.n ≡ Node.Fork c.in-Fork.fork = sym c.leaf_or_fork.ensures ∙ ap as_node c.in-Fork.is in
-    let step : let a = c.args in
-    Stepped a.nodes.now a.n a.length a.index c.in-Fork.fork c.toward-step.result =
-    record { read = read; toward = record { to_left = c.toward-step.ensures.value; to_right = c.toward-step.ensures.value_2 } } in
+    let step = stepped (sym c.leaf_or_fork.ensures ∙ ap as_node c.in-Fork.is) c.toward-step.ensures.to_left c.toward-step.ensures.to_right in
     let pre = c.requires in
     (omega (arith, c.decreases, fork_level pre.at.site.rooted step.read), to_child step pre)
 
 pub uncount-requires : goal.uncount-requires
 uncount-requires t c =
-    let read : node_at c.args.nodes.now c.args.n ≡ Node.Fork c.in-Fork.fork = sym c.leaf_or_fork.ensures ∙ ap as_node c.in-Fork.is in
-    let step : let a = c.args in
-    Stepped a.nodes.now a.n a.length a.index c.in-Fork.fork c.toward-step.result =
-    record { read = read; toward = record { to_left = c.toward-step.ensures.value; to_right = c.toward-step.ensures.value_2 } } in
-    let done : (b : (ToRemove c.args.nodes.now c.args.n c.args.levels c.args.head.now c.args.length c.args.index)) → let call =
-    c.remove_below-change in
-    Gone (to_child step b) call.new.nodes call.new.head (held call.result) call.new.bit =
-    λ b. gone_held c.remove_below-change.result (record { sfits = c.remove_below-change.type_inv })
-    (c.remove_below-change.ensures (to_child step b)) in
+    let step = stepped (sym c.leaf_or_fork.ensures ∙ ap as_node c.in-Fork.is) c.toward-step.ensures.to_left c.toward-step.ensures.to_right in
     let b = c.requires in
-    to_uncount step b (done b)
+    to_uncount step b (gone_held _ (record { sfits = c.remove_below-change.type_inv }) (c.remove_below-change.ensures (to_child step b)))
 
 pub overflow_sub-length : goal.overflow_sub-length
 overflow_sub-length t c =
@@ -63,64 +45,37 @@ overflow_sub-length t c =
 
 pub mend-requires : goal.mend-requires
 mend-requires t c =
-    let read : node_at c.args.nodes.now c.args.n ≡ Node.Fork c.in-Fork.fork = sym c.leaf_or_fork.ensures ∙ ap as_node c.in-Fork.is in
-    let step : let a = c.args in
-    Stepped a.nodes.now a.n a.length a.index c.in-Fork.fork c.toward-step.result =
-    record { read = read; toward = record { to_left = c.toward-step.ensures.value; to_right = c.toward-step.ensures.value_2 } } in
-    let done : (b : (ToRemove c.args.nodes.now c.args.n c.args.levels c.args.head.now c.args.length c.args.index)) → let call =
-    c.remove_below-change in
-    Gone (to_child step b) call.new.nodes call.new.head (held call.result) call.new.bit =
-    λ b. gone_held c.remove_below-change.result (record { sfits = c.remove_below-change.type_inv })
-    (c.remove_below-change.ensures (to_child step b)) in
+    let step = stepped (sym c.leaf_or_fork.ensures ∙ ap as_node c.in-Fork.is) c.toward-step.ensures.to_left c.toward-step.ensures.to_right in
     let b = c.requires in
-    to_mend step b (done b) c.uncount.ensures c.if-step-le-LEAF_LEAST.true
+    to_mend step b (gone_held _ (record { sfits = c.remove_below-change.type_inv }) (c.remove_below-change.ensures (to_child step b)))
+    c.uncount.ensures c.if-step-le-LEAF_LEAST.true
 
 pub returns-then-step-le-LEAF_LEAST : goal.returns-then-step-le-LEAF_LEAST
 returns-then-step-le-LEAF_LEAST t c =
-    let read : node_at c.args.nodes.now c.args.n ≡ Node.Fork c.in-Fork.fork = sym c.leaf_or_fork.ensures ∙ ap as_node c.in-Fork.is in
-    let step : let a = c.args in
-    Stepped a.nodes.now a.n a.length a.index c.in-Fork.fork c.toward-step.result =
-    record { read = read; toward = record { to_left = c.toward-step.ensures.value; to_right = c.toward-step.ensures.value_2 } } in
-    let done : (b : (ToRemove c.args.nodes.now c.args.n c.args.levels c.args.head.now c.args.length c.args.index)) → let call =
-    c.remove_below-change in
-    Gone (to_child step b) call.new.nodes call.new.head (held call.result) call.new.bit =
-    λ b. gone_held c.remove_below-change.result (record { sfits = c.remove_below-change.type_inv })
-    (c.remove_below-change.ensures (to_child step b)) in
+    let step = stepped (sym c.leaf_or_fork.ensures ∙ ap as_node c.in-Fork.is) c.toward-step.ensures.to_left c.toward-step.ensures.to_right in
     λ b.
     let m = c.mend in
     let way = step in
     let few = c.if-step-le-LEAF_LEAST.true in
     let stored = c.uncount.ensures in
     gone_held m.result (record { sfits = m.type_inv })
-    (remove_mended way b (done b) stored few (m.ensures (to_mend way b (done b) stored few)))
+    (remove_mended way b (gone_held _ (record { sfits = c.remove_below-change.type_inv }) (c.remove_below-change.ensures
+    (to_child step b))) stored few (m.ensures (to_mend way b (gone_held _ (record { sfits = c.remove_below-change.type_inv })
+    (c.remove_below-change.ensures (to_child step b))) stored few)))
 
 pub returns-then-change-eq0 : goal.returns-then-change-eq0
 returns-then-change-eq0 t c =
-    let read : node_at c.args.nodes.now c.args.n ≡ Node.Fork c.in-Fork.fork = sym c.leaf_or_fork.ensures ∙ ap as_node c.in-Fork.is in
-    let step : let a = c.args in
-    Stepped a.nodes.now a.n a.length a.index c.in-Fork.fork c.toward-step.result =
-    record { read = read; toward = record { to_left = c.toward-step.ensures.value; to_right = c.toward-step.ensures.value_2 } } in
-    let done : (b : (ToRemove c.args.nodes.now c.args.n c.args.levels c.args.head.now c.args.length c.args.index)) → let call =
-    c.remove_below-change in
-    Gone (to_child step b) call.new.nodes call.new.head (held call.result) call.new.bit =
-    λ b. gone_held c.remove_below-change.result (record { sfits = c.remove_below-change.type_inv })
-    (c.remove_below-change.ensures (to_child step b)) in
+    let step = stepped (sym c.leaf_or_fork.ensures ∙ ap as_node c.in-Fork.is) c.toward-step.ensures.to_left c.toward-step.ensures.to_right in
     λ b.
-    remove_level step b (done b) c.uncount.ensures c.if-step-le-LEAF_LEAST.false (ap (to_z w64) c.if-change-eq0.true)
+    remove_level step b (gone_held _ (record { sfits = c.remove_below-change.type_inv }) (c.remove_below-change.ensures (to_child step b)))
+    c.uncount.ensures c.if-step-le-LEAF_LEAST.false (ap (to_z w64) c.if-change-eq0.true)
 
 pub child_changed-requires : goal.child_changed-requires
 child_changed-requires t c =
-    let read : node_at c.args.nodes.now c.args.n ≡ Node.Fork c.in-Fork.fork = sym c.leaf_or_fork.ensures ∙ ap as_node c.in-Fork.is in
-    let step : let a = c.args in
-    Stepped a.nodes.now a.n a.length a.index c.in-Fork.fork c.toward-step.result =
-    record { read = read; toward = record { to_left = c.toward-step.ensures.value; to_right = c.toward-step.ensures.value_2 } } in
-    let done : (b : (ToRemove c.args.nodes.now c.args.n c.args.levels c.args.head.now c.args.length c.args.index)) → let call =
-    c.remove_below-change in
-    Gone (to_child step b) call.new.nodes call.new.head (held call.result) call.new.bit =
-    λ b. gone_held c.remove_below-change.result (record { sfits = c.remove_below-change.type_inv })
-    (c.remove_below-change.ensures (to_child step b)) in
+    let step = stepped (sym c.leaf_or_fork.ensures ∙ ap as_node c.in-Fork.is) c.toward-step.ensures.to_left c.toward-step.ensures.to_right in
     let b = c.requires in
-    remove_stale step b (done b) c.uncount.ensures c.if-step-le-LEAF_LEAST.false
+    remove_stale step b (gone_held _ (record { sfits = c.remove_below-change.type_inv }) (c.remove_below-change.ensures (to_child step b)))
+    c.uncount.ensures c.if-step-le-LEAF_LEAST.false
 
 pub returns-in-Leaf : goal.returns-in-Leaf
 returns-in-Leaf t c = λ b.
@@ -129,16 +84,9 @@ returns-in-Leaf t c = λ b.
 
 pub returns-else-change-eq0 : goal.returns-else-change-eq0
 returns-else-change-eq0 t c =
-    let read : node_at c.args.nodes.now c.args.n ≡ Node.Fork c.in-Fork.fork = sym c.leaf_or_fork.ensures ∙ ap as_node c.in-Fork.is in
-    let step : let a = c.args in
-    Stepped a.nodes.now a.n a.length a.index c.in-Fork.fork c.toward-step.result =
-    record { read = read; toward = record { to_left = c.toward-step.ensures.value; to_right = c.toward-step.ensures.value_2 } } in
-    let done : (b : (ToRemove c.args.nodes.now c.args.n c.args.levels c.args.head.now c.args.length c.args.index)) → let call =
-    c.remove_below-change in
-    Gone (to_child step b) call.new.nodes call.new.head (held call.result) call.new.bit =
-    λ b. gone_held c.remove_below-change.result (record { sfits = c.remove_below-change.type_inv })
-    (c.remove_below-change.ensures (to_child step b)) in
+    let step = stepped (sym c.leaf_or_fork.ensures ∙ ap as_node c.in-Fork.is) c.toward-step.ensures.to_left c.toward-step.ensures.to_right in
     λ b.
     let d = c.child_changed in
     gone_held d.result (record { sfits = d.type_inv })
-    (remove_leveled step b (done b) c.uncount.ensures c.if-step-le-LEAF_LEAST.false d.ensures)
+    (remove_leveled step b (gone_held _ (record { sfits = c.remove_below-change.type_inv }) (c.remove_below-change.ensures
+    (to_child step b))) c.uncount.ensures c.if-step-le-LEAF_LEAST.false d.ensures)

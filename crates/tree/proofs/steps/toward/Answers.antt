@@ -7,7 +7,8 @@ pub returns : goal.returns
 returns c =
     let a = c.args in
     let parts = picked_step a.fork a.length a.index
-    c.either.ensures c.either-2.ensures c.either-3.ensures (λ t. search rules) (λ t. search rules) in record { value = parts.0; value_2 = parts.1 }
+    c.either.ensures c.either-2.ensures c.either-3.ensures (λ t. search rules)
+    (λ t. search rules) in record { to_left = parts.0; to_right = parts.1 }
 
 pub overflow_sub-result : goal.overflow_sub-result
 overflow_sub-result c = picked_within c.either-3.ensures (λ t. search rules)

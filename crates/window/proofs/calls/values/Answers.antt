@@ -9,7 +9,9 @@ use Rattle.model.specs.Tree.{size}
 use Rattle.model.specs.Word.{words_for}
 use Rattle.model.proofs.Depth.{size_bound}
 use Rattle.pool.specs.Layout.{Rooted}
+use Rattle.window.specs.Calls.{Judges}
 use Rattle.window.specs.Layout.{Stands}
+use Rattle.window.specs.declared.calls.Judgement.TheVariants.{Stands as Stands'}
 use Rattle.window.specs.declared.trailer.Trailer.{Trailer}
 use Rattle.window.proofs.OneState.{nodes_length, stands_length, stands_root, stands_rooted}
 use Rattle.window.proofs.Verdicts.{no_valued, damaged_valued, short_valued, written_valued}
@@ -23,6 +25,17 @@ pub record TrailerRead (ws : List ℕ) (n : ℕ) (t : Trailer) : Type 0 where
   pub rooted : Rooted (take (n * 6) ws) t.root 12 pool.tree
   pub few : size pool.tree ≤ 127 * 2 ^ 12
 
+trailer_read : (ws : List ℕ) (n : ℕ) (t : Trailer) → Judges ws n (Stands' t) → TrailerRead ws n t
+trailer_read ws n t j =
+    let deep = stands_rooted ws n j.0 j.1 in
+    record {
+      pool = j.0;
+      stands = j.1;
+      total = ap (λ (x : Trailer). x.length) j.2 ∙ stands_length ws n j.1.counted j.0 j.1;
+      rooted = rw (ap (λ (x : Trailer). x.root) j.2 ∙ stands_root ws n j.1.counted j.0 j.1) deep;
+      few = size_bound 0 j.0.tree 12 deep.sized deep.deep;
+    }
+
 pub returns-then-n-eq0 : goal.returns-then-n-eq0
 returns-then-n-eq0 c = no_valued _ (c.nodes_of-n.ensures.no c.if-n-eq0.true) _
 
@@ -31,107 +44,32 @@ judged-requires c = c.nodes_of-n.ensures.yes (omega (arith, c.if-n-eq0.false))
 
 pub words_for-words-requires : goal.words_for-words-requires
 words_for-words-requires c =
-    let trailer-read : TrailerRead c.args.pool.now
-    c.nodes_of-n.result c.in-Stands.trailer =
-    let ws = c.args.pool.now in
-    let n = c.nodes_of-n.result in
-    let j = rw c.in-Stands.is at c.judged.ensures in
-    let deep = stands_rooted ws n j.0 j.1 in
-    record {
-      pool = j.0;
-      stands = j.1;
-      total = ap (λ (t : Trailer). t.length) j.2 ∙ stands_length ws n j.1.counted j.0 j.1;
-      rooted = rw (ap (λ (t : Trailer). t.root) j.2 ∙ stands_root ws n j.1.counted j.0 j.1) deep;
-      few = size_bound 0 j.0.tree 12 deep.sized deep.deep;
-    } in
-    let s = trailer-read in omega (arith, s.total, s.few)
+    let s = trailer_read c.args.pool.now c.nodes_of-n.result c.in-Stands.trailer (rw c.in-Stands.is at c.judged.ensures) in
+    omega (arith, s.total, s.few)
 
 pub returns-then-out-words : goal.returns-then-out-words
 returns-then-out-words c =
-    let trailer-read : TrailerRead c.args.pool.now
-    c.nodes_of-n.result c.in-Stands.trailer =
-    let ws = c.args.pool.now in
-    let n = c.nodes_of-n.result in
-    let j = rw c.in-Stands.is at c.judged.ensures in
-    let deep = stands_rooted ws n j.0 j.1 in
-    record {
-      pool = j.0;
-      stands = j.1;
-      total = ap (λ (t : Trailer). t.length) j.2 ∙ stands_length ws n j.1.counted j.0 j.1;
-      rooted = rw (ap (λ (t : Trailer). t.root) j.2 ∙ stands_root ws n j.1.counted j.0 j.1) deep;
-      few = size_bound 0 j.0.tree 12 deep.sized deep.deep;
-    } in
-    let s = trailer-read in
+    let s = trailer_read c.args.pool.now c.nodes_of-n.result c.in-Stands.trailer (rw c.in-Stands.is at c.judged.ensures) in
     short_valued _ _ s.pool s.stands _ (rw (← s.total, ← c.words_for-words.ensures) c.if-out-words.true)
 
 pub overflow_mul-end : goal.overflow_mul-end
 overflow_mul-end c =
-    let trailer-read : TrailerRead c.args.pool.now
-    c.nodes_of-n.result c.in-Stands.trailer =
-    let ws = c.args.pool.now in
-    let n = c.nodes_of-n.result in
-    let j = rw c.in-Stands.is at c.judged.ensures in
-    let deep = stands_rooted ws n j.0 j.1 in
-    record {
-      pool = j.0;
-      stands = j.1;
-      total = ap (λ (t : Trailer). t.length) j.2 ∙ stands_length ws n j.1.counted j.0 j.1;
-      rooted = rw (ap (λ (t : Trailer). t.root) j.2 ∙ stands_root ws n j.1.counted j.0 j.1) deep;
-      few = size_bound 0 j.0.tree 12 deep.sized deep.deep;
-    } in
-    let s = trailer-read in omega (arith, s.stands.counted.most)
+    let s = trailer_read c.args.pool.now c.nodes_of-n.result c.in-Stands.trailer (rw c.in-Stands.is at c.judged.ensures) in
+    omega (arith, s.stands.counted.most)
 
 pub slice_bounds-values-end : goal.slice_bounds-values-end
 slice_bounds-values-end c =
-    let trailer-read : TrailerRead c.args.pool.now
-    c.nodes_of-n.result c.in-Stands.trailer =
-    let ws = c.args.pool.now in
-    let n = c.nodes_of-n.result in
-    let j = rw c.in-Stands.is at c.judged.ensures in
-    let deep = stands_rooted ws n j.0 j.1 in
-    record {
-      pool = j.0;
-      stands = j.1;
-      total = ap (λ (t : Trailer). t.length) j.2 ∙ stands_length ws n j.1.counted j.0 j.1;
-      rooted = rw (ap (λ (t : Trailer). t.root) j.2 ∙ stands_root ws n j.1.counted j.0 j.1) deep;
-      few = size_bound 0 j.0.tree 12 deep.sized deep.deep;
-    } in
-    let s = trailer-read in sym (nodes_length _ _ s.stands.counted)
+    let s = trailer_read c.args.pool.now c.nodes_of-n.result c.in-Stands.trailer (rw c.in-Stands.is at c.judged.ensures) in
+    sym (nodes_length _ _ s.stands.counted)
 
 pub values-requires : goal.values-requires
 values-requires c =
-    let trailer-read : TrailerRead c.args.pool.now
-    c.nodes_of-n.result c.in-Stands.trailer =
-    let ws = c.args.pool.now in
-    let n = c.nodes_of-n.result in
-    let j = rw c.in-Stands.is at c.judged.ensures in
-    let deep = stands_rooted ws n j.0 j.1 in
-    record {
-      pool = j.0;
-      stands = j.1;
-      total = ap (λ (t : Trailer). t.length) j.2 ∙ stands_length ws n j.1.counted j.0 j.1;
-      rooted = rw (ap (λ (t : Trailer). t.root) j.2 ∙ stands_root ws n j.1.counted j.0 j.1) deep;
-      few = size_bound 0 j.0.tree 12 deep.sized deep.deep;
-    } in
-    let s = trailer-read in
+    let s = trailer_read c.args.pool.now c.nodes_of-n.result c.in-Stands.trailer (rw c.in-Stands.is at c.judged.ensures) in
     (s.pool.tree, s.rooted, sym s.total, rw (← c.words_for-words.ensures) c.if-out-words.false)
 
 pub returns-else-out-words : goal.returns-else-out-words
 returns-else-out-words c =
-    let trailer-read : TrailerRead c.args.pool.now
-    c.nodes_of-n.result c.in-Stands.trailer =
-    let ws = c.args.pool.now in
-    let n = c.nodes_of-n.result in
-    let j = rw c.in-Stands.is at c.judged.ensures in
-    let deep = stands_rooted ws n j.0 j.1 in
-    record {
-      pool = j.0;
-      stands = j.1;
-      total = ap (λ (t : Trailer). t.length) j.2 ∙ stands_length ws n j.1.counted j.0 j.1;
-      rooted = rw (ap (λ (t : Trailer). t.root) j.2 ∙ stands_root ws n j.1.counted j.0 j.1) deep;
-      few = size_bound 0 j.0.tree 12 deep.sized deep.deep;
-    } in
-    let s = trailer-read in
+    let s = trailer_read c.args.pool.now c.nodes_of-n.result c.in-Stands.trailer (rw c.in-Stands.is at c.judged.ensures) in
     let e = c.words_for-words.ensures in
     let t = ap words_for s.total in
     written_valued _ _ s.pool s.stands _ _ _ (e ∙ t) (rw (← t, ← e) c.if-out-words.false)
