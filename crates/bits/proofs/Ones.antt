@@ -1,16 +1,11 @@
--- The machine's count of ones, over the width of the word: it is the number of set bits in the word's list, and small.
+-- The machine's count of ones, over the width of the word: it is the number of set bits in the word's list.
 use Prim.Native.Nat.{ℕ, ◌^◌, ◌<◌}
-use native.Mathlib.Nat.{mod-eq_of_lt, lt_of_le_of_lt}
+use native.Mathlib.Nat.{mod-eq_of_lt}
 use mathlib.Core.Path.{◌≡◌, sym, ap, ◌∙◌}
 use lib.Count as Count
-use mir.Syntax.{w64}
-use mir.Val.{Fits}
 use Rattle.model.specs.Marks.{ones}
 use Rattle.model.specs.Word.{bits}
 use Rattle.model.proofs.Words.{ones_bits}
 
 pub counted : (n w : ℕ) → w < 2 ^ n → Count.ones w ≡ ones (bits n w)
 counted n w h = ap Count.ones (sym (mod-eq_of_lt h)) ∙ sym (ones_bits n w)
-
-pub fits_count : (n w : ℕ) → w < 2 ^ n → n < 2 ^ 64 → Fits w64 (Count.ones w)
-fits_count n w h l = record { fits = lt_of_le_of_lt (Count.ones-le n w h) l }

@@ -18,7 +18,6 @@ use Rattle.model.proofs.Words.{bits_add, bits_at, bits_length, take_bits}
 use Rattle.bits.specs.Choice.{Picked}
 use Rattle.bits.specs.Leaf.{packed, leaf_of, halves_of}
 use Rattle.bits.specs.declared.leaf.Leaf.{Leaf}
-use Rattle.bits.specs.declared.leaf.Halves.{Halves}
 use Rattle.bits.proofs.Packed.{packed_own, packed_enough, packed_padded}
 
 -- a leaf by its two words: 64 marks in the low one, the rest in the high one
@@ -206,11 +205,11 @@ module _ (self : Leaf) where
   -- ---- split: each word as a leaf
 
   pub split_both : a < 2 ^ 64 → b < 2 ^ 64
-      → ◌≡◌ {A = Halves} (record { left = record { low = a; high = 0 }; right = record { low = b; high = 0 } }) (halves_of (bits 64 a ++ bits 64 b))
+      → ◌≡◌ {A = Leaf × Leaf} (record { low = a; high = 0 }, record { low = b; high = 0 }) (halves_of (bits 64 a ++ bits 64 b))
   unfolding halves_of
   split_both h l =
       rw (take_at (bits 64 a) (bits 64 b) 64 (bits_length 64 a), drop_at (bits 64 a) (bits 64 b) 64 (bits_length 64 a))
-      (λ i. record { left = lone a h i; right = lone b l i })
+      (λ i. (lone a h i, lone b l i))
 
   -- ---- the bit at a place, and the count before it
 

@@ -2,7 +2,6 @@
 use Rattle.std.specs.Prelude.{ℕ, Bool, List, ◌++◌, take, drop}
 use Rattle.model.specs.Word.{bits, number, word_bits}
 use Rattle.bits.specs.declared.leaf.Leaf.{Leaf}
-use Rattle.bits.specs.declared.leaf.Halves.{Halves}
 
 -- the 128 bits of a leaf, lowest first
 unfoldable pub bits_of : Leaf → List Bool
@@ -17,5 +16,5 @@ unfoldable pub leaf_of : List Bool → Leaf
 leaf_of xs = record { low = packed xs; high = packed (drop word_bits xs) }
 
 -- the marks cut after the 64th, each part in a leaf
-unfoldable pub halves_of : List Bool → Halves
-halves_of xs = record { left = leaf_of (take word_bits xs); right = leaf_of (drop word_bits xs) }
+unfoldable pub halves_of : List Bool → Leaf × Leaf
+halves_of xs = (leaf_of (take word_bits xs), leaf_of (drop word_bits xs))

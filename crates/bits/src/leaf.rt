@@ -7,22 +7,19 @@ ghost use Rattle.model.specs.Word.{bits};
 ghost use Rattle.bits.specs.Leaf.{bits_of, halves_of, leaf_of, packed};
 
 use crate::choice::either;
-use crate::count::ones64;
+use crate::word::Word;
 use crate::{BLOCK_BITS, TOP_BIT, WORD_BITS};
 
-#[derive(Clone, Copy)]
+#[derive(Clone, Copy, Debug, PartialEq, Eq, Hash)]
 pub struct Leaf {
     pub low: u64,
     pub high: u64,
 }
 
-#[derive(Clone, Copy)]
-pub struct Halves {
-    pub left: Leaf,
-    pub right: Leaf,
-}
-
 impl Leaf {
+    // The leaf of no marks.
+    pub const EMPTY: Leaf = Leaf { low: 0, high: 0 };
+
     // The leaf with a mark put in at a place. The marks from there on move up by one; a bit 127 is lost. The word that
     // the place is in is chosen, here and in `remove`, without a jump.
     pub fn insert(self, at: u64, bit: bool) -> Leaf
@@ -81,7 +78,7 @@ impl Leaf {
     }
 
     // The first 64 bits and the last 64, each as a leaf.
-    pub fn split(self) -> Halves
+    pub fn split(self) -> (Leaf, Leaf)
         ensures { result ≡ halves_of (bits_of self) }
     {
         let left = Leaf {
@@ -92,7 +89,7 @@ impl Leaf {
             low: self.high,
             high: 0,
         };
-        Halves { left, right }
+        (left, right)
     }
 
     // How many of the bits before a place are strikes, or quiet ones.
@@ -164,9 +161,9 @@ fn ones_below(word: u64, n: u64) -> u64
     ensures { result ≡ ones (take n (bits 64 word)) }
 {
     if n < WORD_BITS {
-        return ones64(word_below(word, n));
+        return word_below(word, n).ones();
     }
-    ones64(word)
+    word.ones()
 }
 
 // How many of the bits before a place are set.

@@ -1,14 +1,14 @@
-// A leaf of two words with its edits, how many bits of a word are set, and one of two numbers. Bits count from the
+// A leaf of two words with its edits, words of 32 and of 64 bits as one, and one of two numbers. Bits count from the
 // lowest, and a word is the list of its bits.
 #![tactic(auto)]
 
 mod choice;
-mod count;
 mod leaf;
+mod word;
 
 pub use choice::either;
-pub use count::{ones32, ones64};
-pub use leaf::{Halves, Leaf};
+pub use leaf::Leaf;
+pub use word::Word;
 
 // The bits of a word, and of the two words of a leaf.
 pub const WORD_BITS: u64 = 64;

@@ -47,7 +47,7 @@ module _ (w w' : List ℕ) (n m : ℕ) (kept : Kept w w' n) (h : n ≤ m) where
 -- ---- a leaf and a fork
 
 pub leaf_waits : {w w' : List ℕ} {n : ℕ} (at total : ℕ) (xs : List Bool) → Put w w' n (Node.Leaf (leaf_of xs)) → (0 < at → FitsLeft total (leaf n xs))
-    → Waits w' (suc n) at (leaf n xs) (record { node = n; total = total; height = 0 })
+    → Waits w' (suc n) at (leaf n xs) (record { tree = record { node = n; length = total }; height = 0 })
 unfolding top height numbers
 leaf_waits {n = n} at total xs p filled =
     record {
@@ -60,7 +60,7 @@ leaf_waits {n = n} at total xs p filled =
 
 -- a tree that is not the rightmost stands as its item says
 abbrev pub waits_standing : {w : List ℕ} {n at : ℕ} {t : Tree} {x : Item} → Waits w n at t x → 0 < at → x.height ≤ levels
-    → TreeAt w x.node levels x.total
+    → TreeAt w x.tree levels
 waits_standing {t = t} s some low =
     record {
       tree = t;

@@ -6,7 +6,7 @@ use mathlib.Core.Bool.{Bool}
 use mathlib.Core.List.Memᴰ
 use mathlib.Core.List.{List, [], ◌∷◌, Memᴰ}
 use mathlib.Core.Logic.{⊎_elim}
-use mathlib.Core.Option.{Option, some}
+use Rattle.std.specs.Prelude.{Option, Some}
 use lib.ListN.{length}
 use Rattle.model.specs.Build.{leaf_count}
 use Rattle.model.specs.Pool.{Pool, build, nodes_for, numbers_from}
@@ -61,6 +61,6 @@ laid_one {w} {w'} {n} {p} a b each =
     same_nodes n w w' (omega (arith, a.words)) (omega (arith, b.words)) (λ k h. (same k h).0) (λ k h. (same k h).1)
 
 -- where there is room a pool is built
-pub builds : (n : ℕ) (xs : List Bool) → nodes_for (leaf_count (length xs)) ≤ n → (p : Pool) × (build n xs ≡ some p)
+pub builds : (n : ℕ) (xs : List Bool) → nodes_for (leaf_count (length xs)) ≤ n → (p : Pool) × (build n xs ≡ Some p)
 builds n xs room =
-    build_outcomes (λ (o : Option Pool). (p : Pool) × (o ≡ some p)) n xs (λ few. absurd (omega arith)) (λ _. (_, refl))
+    build_outcomes (λ (o : Option Pool). (p : Pool) × (o ≡ Some p)) n xs (λ few. absurd (omega arith)) (λ _. (_, refl))

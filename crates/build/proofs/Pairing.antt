@@ -62,7 +62,7 @@ halved c zero few some = absurd (omega arith)
 halved c (suc more) few some = (more, refl, omega (arith, pow-suc 2 more))
 
 module _ {next : ℕ} {r : Row} (p : Level next r) (some : 2 ≤ r.count) (m : ℕ) (y : Item) where
-  pub level_above : next < m → y.total ≤ 4 * r.total → suc r.height ≤ y.height → y.height ≤ suc (suc r.height)
+  pub level_above : next < m → y.tree.length ≤ 4 * r.total → suc r.height ≤ y.height → y.height ≤ suc (suc r.height)
       → Level m (row_above r next y)
   level_above on total higher most =
       let (more, one, few) = halved r.count p.left p.few some in
@@ -143,7 +143,7 @@ pair_item : (r : Row) (next i at to : ℕ) (y : Item) → item_over (next + i) (
 pair_item r next i at to y =
     let twice : r.total + r.total ≡ r.total * 2 = omega arith in
     let high : max r.height r.height ≡ r.height = omega arith in
-    λ j. record { node = next + i; total = twice j; height = suc (high j) }
+    λ j. record { tree = record { node = next + i; length = twice j }; height = suc (high j) }
 
 -- the last tree made, and all before it, wait for the next round
 ended : {before w : List ℕ} {next m : ℕ} {r : Row} {ts : List Tree} (y : Item) (done : List Tree) (last : Tree)

@@ -34,7 +34,7 @@ build_pinned κs a r r' w w' room p q =
     let s = p pool e in
     let t = q pool e in (
       λ i. record {
-        root = (s.root ∙ sym t.root) i;
+        tree = record { node = (s.root ∙ sym t.root) i; length = (s.total ∙ sym t.total) i };
         chain = record { first = (s.first ∙ sym t.first) i; count = (s.count ∙ sym t.count) i };
       },
       laid_one s.laid t.laid (pool_numbers n xs pool e),

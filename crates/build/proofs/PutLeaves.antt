@@ -44,12 +44,12 @@ leaf_filled n i xs h =
 
 -- a leaf in front of those that stand
 in_front : {w : List ℕ} {i leaves : ℕ} (xs : List Bool) (seen : List Tree) → length seen ≡ i → i < leaves
-    → ((x : Item) → x ≡ record { node = i; total = 64; height = 0 } → Waits w (suc i) (leaves - suc i) (leaf i xs) x)
+    → ((x : Item) → x ≡ record { tree = record { node = i; length = 64 }; height = 0 } → Waits w (suc i) (leaves - suc i) (leaf i xs) x)
     → Along w (suc i) (leaf_row leaves) (suc (leaves - suc i)) seen → Along w (suc i) (leaf_row leaves) (leaves - suc i) (leaf i xs ∷ seen)
 in_front xs [] many h s p =
-    s _ (let z : 0 ≡ _ = many in λ j. record { node = z j; total = 64; height = 0 })
+    s _ (let z : 0 ≡ _ = many in λ j. record { tree = record { node = z j; length = 64 }; height = 0 })
 in_front {i = i} {leaves = leaves} xs (t ∷ seen) many h s p =
-    (s _ (let z : leaves - 1 - (leaves - suc i) ≡ i = omega arith in λ j. record { node = z j; total = 64; height = 0 }), p)
+    (s _ (let z : leaves - 1 - (leaves - suc i) ≡ i = omega arith in λ j. record { tree = record { node = z j; length = 64 }; height = 0 }), p)
 
 module _ {w : List ℕ} {xs : List Bool} {leaves i : ℕ} (w' : List ℕ) (b : Begun w xs leaves i) (few : leaves ≡ leaf_count (length xs)) (h : i < leaves)
     (fits : i < nodes_in w) where

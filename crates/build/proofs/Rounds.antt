@@ -48,12 +48,12 @@ module _ {w w' : List ℕ} {r made : Row} {next n : ℕ} (t : Tree) (some : 2 �
 
 -- one tree left
 last_tree : {w : List ℕ} {r : Row} {n : ℕ} (t : Tree) (trees : List Tree) (more : ℕ) → rounds more n trees ≡ t → r.count ≡ 1 → Waiting w n r trees
-    → Finished w n t r.last.node
+    → Finished w n t r.last.tree.node
 last_tree t [] more outcome one p = absurd (omega (arith, p.many))
 last_tree {n = n} t (u ∷ []) more outcome one p =
     let same : u ≡ t = sym (rounds_lone more n u) ∙ outcome in
     rw (← same) (record { at = p.trees.node; holds = p.trees.holds; below = p.trees.below })
 last_tree t (u ∷ v ∷ trees) more outcome one p = absurd (omega (arith, p.many))
 
-pub last_round : {w : List ℕ} {r : Row} {next : ℕ} {t : Tree} → InRounds w r next t → r.count ≡ 1 → Finished w next t r.last.node
+pub last_round : {w : List ℕ} {r : Row} {next : ℕ} {t : Tree} → InRounds w r next t → r.count ≡ 1 → Finished w next t r.last.tree.node
 last_round {t = t} p one = last_tree t p.trees p.more p.outcome one p.waits

@@ -33,7 +33,7 @@ number_at (suc h) first at = first + at
 
 -- all but the last are alike
 abbrev pub item_at : Row → ℕ → Item
-item_at r at = record { node = number_at r.height r.first at; total = r.total; height = r.height }
+item_at r at = record { tree = record { node = number_at r.height r.first at; length = r.total }; height = r.height }
 
 -- the leaves' row
 abbrev pub leaf_row : ℕ → Row
@@ -43,7 +43,7 @@ leaf_row leaves =
       total = leaf_built;
       height = 0;
       count = leaves;
-      last = record { node = 0; total = leaf_built; height = 0 };
+      last = record { tree = record { node = 0; length = leaf_built }; height = 0 };
     }
 
 -- the row after a round, the forks' numbers from `next` on, with its last tree
@@ -57,33 +57,33 @@ row_above r next last =
 abbrev pub fork_over : Item → Item → ℕ → Fork
 fork_over l r ones =
     record {
-      left = l.node;
-      right = r.node;
-      left_total = l.total;
+      left = l.tree.node;
+      right = r.tree.node;
+      left_total = l.tree.length;
       left_ones = ones;
       balance = (r.height + 2) - l.height;
     }
 
 abbrev pub item_over : ℕ → Item → Item → Item
 item_over n l r =
-    record { node = n; total = l.total + r.total; height = suc (max l.height r.height) }
+    record { tree = record { node = n; length = l.tree.length + r.tree.length }; height = suc (max l.height r.height) }
 
 -- small enough to be joined: the balance is no less than -2, and all sums fit
 pub record Small (l r : Item) : Type 0 where
   pub even : l.height ≤ r.height + 2
   pub left : l.height < 2 ^ 32
   pub right : r.height < 2 ^ 32
-  pub totals : l.total + r.total < 2 ^ 32
+  pub totals : l.tree.length + r.tree.length < 2 ^ 32
 
 -- the left one's strikes can be counted, and both can be joined
 pub record Joinable (w : List ℕ) (l r : Item) : Type 0 where
-  pub stands : TreeAt w l.node levels l.total
+  pub stands : TreeAt w l.tree levels
   pub small : Small l r
 
 -- the words with their fork put at n, and what is then known of it
 pub record Forked (w w' : List ℕ) (n : ℕ) (l r x : Item) : Type 0 where
   pub item : x ≡ item_over n l r
-  pub stored : (s : TreeAt w l.node levels l.total)
+  pub stored : (s : TreeAt w l.tree levels)
       → w' ≡ put w n (fork_cell (fork_over l r (count true (marks s.tree))))
 
 -- ---- the trees that wait
@@ -96,9 +96,9 @@ pub record FitsLeft (total : ℕ) (t : Tree) : Type 0 where
 -- a tree at a place of the row: it stands in these words, its numbers below n, and it is as its item says; the marks
 -- of the rightmost one, at 0, are not told
 pub record Waits (w : List ℕ) (n at : ℕ) (t : Tree) (x : Item) : Type 0 where
-  pub node : x.node ≡ top t
+  pub node : x.tree.node ≡ top t
   pub levels : x.height ≡ height t
-  pub filled : 0 < at → FitsLeft x.total t
+  pub filled : 0 < at → FitsLeft x.tree.length t
   pub holds : Holds w t
   pub below : (k : ℕ) → Memᴰ k (numbers t) → k < n
 
@@ -119,7 +119,7 @@ pub record Level (n : ℕ) (r : Row) : Type 0 where
   pub few : r.count < 2 ^ left
   pub low : r.height + left ≡ most_rounds
   pub total : r.total ≡ leaf_built * 2 ^ r.height
-  pub last_total : r.last.total ≤ 2 * r.total
+  pub last_total : r.last.tree.length ≤ 2 * r.total
   pub not_lower : r.height ≤ r.last.height
   pub not_higher : r.last.height ≤ suc r.height
   pub placed : r.count ≤ suc r.first

@@ -2,8 +2,7 @@
 // take the numbers from 0 on, forks the next ones as they are made, and the numbers that are left form the free chain
 // upward. Of the trees that wait to be joined only the leftmost is remembered: what the others are follows from their
 // places.
-ghost use Rattle.std.proofs.Math.Option.{some};
-ghost use Rattle.std.specs.Prelude.{◌≡◌, max, min, suc, ◌*◌, ◌-◌, ◌<◌, ◌≤◌, ◌^◌, length as count_of, take};
+ghost use Rattle.std.specs.Prelude.{Some, ◌≡◌, min, ◌*◌, ◌-◌, ◌<◌, ◌≤◌, ◌^◌, length as count_of, take};
 ghost use Rattle.model.specs.Build.{leaf_count};
 ghost use Rattle.model.specs.Pool as Pool;
 ghost use Rattle.model.specs.Word.{bits as bits_in, marks_of};
@@ -14,17 +13,16 @@ ghost use Rattle.build.specs.Waiting.{Forked, Freeing, AllJoined, Joinable, Leaf
 ghost use Rattle.build.specs.Waiting.{item_at, leaf_marks, row_above};
 
 use bits::Leaf;
-use pool::{Chain, Fork, node_count, set_fork, set_free, set_leaf};
-use tree::rank;
+use pool::{Chain, Fork, Free, node_count, set_node};
+use tree::{Held, Root};
 
 // How many marks a built leaf takes, the last one perhaps fewer.
 const LEAF_BUILT: u64 = 64;
 
-// A tree that waits to be joined: its top number, its marks and its height.
+// A tree that waits to be joined, and its height.
 #[derive(Clone, Copy)]
 struct Item {
-    node: u64,
-    total: u64,
+    tree: Root,
     height: u64,
 }
 
@@ -40,20 +38,11 @@ struct Row {
     last: Item,
 }
 
-#[derive(Clone, Copy)]
-pub struct Built {
-    pub root: u64,
-    pub chain: Chain,
-}
-
 // How many leaves so many marks take; no marks take one.
 pub fn leaf_count(length: u64) -> u64
     ensures { result ≡ leaf_count length }
 {
-    if length == 0 {
-        return 1;
-    }
-    (length - 1) / LEAF_BUILT + 1
+    length.div_ceil(LEAF_BUILT).max(1)
 }
 
 // How many marks the leaf i takes.
@@ -61,11 +50,7 @@ fn leaf_total(length: u64, i: u64) -> u64
     requires { i * 64 ≤ length }
     ensures { result ≡ min 64 (length - i * 64) }
 {
-    let left = length - i * LEAF_BUILT;
-    if left < LEAF_BUILT {
-        return left;
-    }
-    LEAF_BUILT
+    (length - i * LEAF_BUILT).min(LEAF_BUILT)
 }
 
 // The leaf of a word's first marks.
@@ -74,8 +59,7 @@ fn first_marks(word: u64, total: u64) -> Leaf
     ensures { result ≡ leaf_of (take total (bits_in 64 word)) }
 {
     let leaf = Leaf { low: word, high: 0 };
-    let none = Leaf { low: 0, high: 0 };
-    leaf.join(total, none)
+    leaf.join(total, Leaf::EMPTY)
 }
 
 // The leaf i of the first `length` bits of the words, empty where there are none.
@@ -85,10 +69,9 @@ fn leaf_of_words(words: &[u64], length: u64, i: u64) -> Leaf
 {
     let total = leaf_total(length, i);
     if total == 0 {
-        return Leaf { low: 0, high: 0 };
+        return Leaf::EMPTY;
     }
-    let at = i as usize;
-    first_marks(words[at], total)
+    first_marks(words[i as usize], total)
 }
 
 // Puts every leaf at its number.
@@ -97,10 +80,8 @@ fn put_leaves(nodes: &mut [u64], words: &[u64], length: u64, leaves: u64) -> Row
     ensures { Planted nodes.old nodes.new
         (take length (marks_of words.now)) leaves result }
 {
-    let mut i = 0;
-    while i < leaves {
-        set_leaf(nodes, i, leaf_of_words(words, length, i));
-        i += 1;
+    for i in 0..leaves {
+        set_node(nodes, i, leaf_of_words(words, length, i));
     }
     Row {
         first: leaves - 1,
@@ -108,8 +89,10 @@ fn put_leaves(nodes: &mut [u64], words: &[u64], length: u64, leaves: u64) -> Row
         height: 0,
         count: leaves,
         last: Item {
-            node: 0,
-            total: LEAF_BUILT,
+            tree: Root {
+                node: 0,
+                length: LEAF_BUILT,
+            },
             height: 0,
         },
     }
@@ -120,29 +103,18 @@ fn waiting(row: Row, at: u64) -> Item
     requires { (at ≤ row.first) × (row.first < 2 ^ 32) }
     ensures { result ≡ item_at row at }
 {
-    if row.height == 0 {
-        return Item {
-            node: row.first - at,
-            total: row.total,
-            height: row.height,
-        };
-    }
+    let node = if row.height == 0 {
+        row.first - at
+    } else {
+        row.first + at
+    };
     Item {
-        node: row.first + at,
-        total: row.total,
+        tree: Root {
+            node,
+            length: row.total,
+        },
         height: row.height,
     }
-}
-
-// The height of a fork over these heights.
-fn above(left: u64, right: u64) -> u64
-    requires { (left < 2 ^ 32) × (right < 2 ^ 32) }
-    ensures { result ≡ suc (max left right) }
-{
-    if left < right {
-        return right + 1;
-    }
-    left + 1
 }
 
 // Joins two trees by a fork at n. The stored balance is two more than right height less left height.
@@ -150,22 +122,24 @@ fn joined(nodes: &mut [u64], n: u64, left: Item, right: Item) -> Item
     requires { Joinable nodes.old left right }
     ensures { Forked nodes.old nodes.new n left right result }
 {
-    let ones = rank(nodes, left.node, left.total, left.total, true);
-    set_fork(
+    let ones = left.tree.rank(nodes, left.tree.length, true);
+    set_node(
         nodes,
         n,
         Fork {
-            left: left.node,
-            right: right.node,
-            left_total: left.total,
+            left: left.tree.node,
+            right: right.tree.node,
+            left_total: left.tree.length,
             left_ones: ones,
             balance: right.height + 2 - left.height,
         },
     );
     Item {
-        node: n,
-        total: left.total + right.total,
-        height: above(left.height, right.height),
+        tree: Root {
+            node: n,
+            length: left.tree.length + right.tree.length,
+        },
+        height: left.height.max(right.height) + 1,
     }
 }
 
@@ -189,23 +163,22 @@ fn round(nodes: &mut [u64], row: Row, next: u64) -> Row
     requires { (2 ≤ row.count) × Ready nodes.old row next }
     ensures { Rounded nodes.old nodes.new row result next }
 {
-    let mut i = 0;
-    while i * 2 + 3 < row.count {
+    let pairs = row.count / 2 - 1;
+    for i in 0..pairs {
         joined(
             nodes,
             next + i,
             waiting(row, i * 2 + 1),
             waiting(row, i * 2),
         );
-        i += 1;
     }
-    let right = waiting(row, i * 2);
-    let last = row.last;
+    let n = next + pairs;
+    let right = waiting(row, pairs * 2);
     if row.count % 2 == 0 {
-        return row_above(row, next, joined(nodes, next + i, last, right));
+        return row_above(row, next, joined(nodes, n, row.last, right));
     }
-    let pair = joined(nodes, next + i, waiting(row, i * 2 + 1), right);
-    row_above(row, next, joined(nodes, next + i + 1, last, pair))
+    let pair = joined(nodes, n, waiting(row, pairs * 2 + 1), right);
+    row_above(row, next, joined(nodes, n + 1, row.last, pair))
 }
 
 // Round upon round until one tree is left; its number.
@@ -220,8 +193,7 @@ fn rounds(nodes: &mut [u64], leaves: Row) -> u64
         row = round(nodes, row, next);
         next += taken;
     }
-    let last = row.last;
-    last.node
+    row.last.tree.node
 }
 
 // The free chain over the numbers from `first` on.
@@ -230,10 +202,8 @@ fn chain_from(nodes: &mut [u64], first: u64) -> Chain
     ensures { Freeing nodes.old nodes.new first result }
 {
     let end = node_count(nodes);
-    let mut n = first;
-    while n < end {
-        set_free(nodes, n, n + 1);
-        n += 1;
+    for n in first..end {
+        set_node(nodes, n, Free(n + 1));
     }
     Chain {
         first,
@@ -242,15 +212,18 @@ fn chain_from(nodes: &mut [u64], first: u64) -> Chain
 }
 
 // Builds the tree of the first `length` bits of the words.
-pub fn build(nodes: &mut [u64], words: &[u64], length: u64) -> Built
+pub fn build(nodes: &mut [u64], words: &[u64], length: u64) -> Held
     requires { Room nodes.old words.now length }
     ensures { (p : Pool.Pool)
-        → Pool.build (nodes_in nodes.old) (take length (marks_of words.now)) ≡ some p
+        → Pool.build (nodes_in nodes.old) (take length (marks_of words.now)) ≡ Some p
         → BuiltAs nodes.new (nodes_in nodes.old) result p }
 {
     let leaves = leaf_count(length);
     let row = put_leaves(nodes, words, length, leaves);
-    let root = rounds(nodes, row);
+    let node = rounds(nodes, row);
     let chain = chain_from(nodes, leaves * 2 - 1);
-    Built { root, chain }
+    Held {
+        tree: Root { node, length },
+        chain,
+    }
 }

@@ -4,4 +4,4 @@
 
 mod building;
 
-pub use building::{Built, build, leaf_count};
+pub use building::{build, leaf_count};

@@ -21,7 +21,8 @@ use Rattle.model.specs.Word.{digit}
 use Rattle.order.specs.Asked.{Asked, asks, with_bit, inserting, unknown}
 use Rattle.order.specs.Plain.{list_after, list_answer}
 use Rattle.run.specs.Orders.{answer, after, answers, after_all, answer_words, orders_of, no_room}
-use Rattle.order.specs.declared.answer.Answer.TheVariants.{Full}
+use Rattle.std.specs.Prelude.{Err}
+use Rattle.order.specs.declared.answer.Refusal.TheVariants.{Full}
 use Rattle.window.proofs.OneState.{counted_one, one_state}
 use Rattle.window.proofs.Pinned.{Likely, one_layout, words_stable}
 use Rattle.demands.specs.Following.{full, AllRefused, ListAnswers, TellsFull}
@@ -41,11 +42,11 @@ module _ {ws : List ℕ} {n : ℕ} {p : Pool} (s : Stands ws n p) where
   trailer_at : length ws - 6 ≡ n * 6
   trailer_at = omega (arith, s.counted.words)
 
-  pub trailer_length : (trailer ws).length ≡ length (marks p.tree)
+  pub trailer_length : (trailer ws).held.tree.length ≡ length (marks p.tree)
   unfolding trailer_of
   trailer_length = rw (trailer_at, s.trailer) (size_marks p.tree)
 
-  pub trailer_free : (trailer ws).chain.count ≡ length p.free
+  pub trailer_free : (trailer ws).held.chain.count ≡ length p.free
   unfolding trailer_of
   trailer_free = rw (trailer_at, s.trailer)
 
@@ -69,13 +70,13 @@ module _ {ws : List ℕ} {n : ℕ} {p : Pool} (s : Stands ws n p) where
 -- ---- an order, by the pool that stands before it
 
 -- it is answered Full, or what the list answers
-pub by_answer : {P : Type 0} (o : Asked) (p : Pool) → (answer o p ≡ Full → P)
+pub by_answer : {P : Type 0} (o : Asked) (p : Pool) → (answer o p ≡ Err Full → P)
     → (answer o p ≡ list_answer o (marks p.tree) → marks (after o p).tree ≡ list_after o (marks p.tree) → P) → P
 by_answer o p f g =
     by_test (no_room o p) (λ t. f (one_order_full o p t).0) (λ t. let k = one_order o p t in g k.0 k.1)
 
 -- the code 4 is Full's alone
-full_told : (o : Asked) (p : Pool) → code (answer o p) ≡ 4 → answer o p ≡ Full
+full_told : (o : Asked) (p : Pool) → code (answer o p) ≡ 4 → answer o p ≡ Err Full
 full_told o p e = by_answer o p (λ f. f) (λ f g. absurd ((list_codes o (marks p.tree)).0 (rw f at e)))
 
 -- an order that is an insert has the words of one
@@ -154,7 +155,7 @@ module _ {ws : List ℕ} {e : Exchange} (r : InRun ws e) where
     unfolding code value
     no_room_then_told i lack =
         let k = insert_asked e.entry i in
-        let f : answer (asked e.entry) p ≡ Full = rw k.1 (full_if e.entry.second k.0 p (roomless s e.entry.second lack)) in
+        let f : answer (asked e.entry) p ≡ (Err Full) = rw k.1 (full_if e.entry.second k.0 p (roomless s e.entry.second lack)) in
         record { code = code_is ∙ ap code f; value = value_is ∙ ap value f }
 
     pub else_the_list : (e.entry.code ≡ full → ⊥)
@@ -196,7 +197,7 @@ module _ {ws : List ℕ} {e : Exchange} (r : InRun ws e) where
 -- ---- the floor
 
 pub floor_in_history : (slice words : List ℕ) (len : ℕ) (lists : List (List ℕ)) (ws told : List ℕ) (n : ℕ) (e : Exchange) → Counted slice n
-    → History slice words len lists ws told → InRun ws e → e.entry.code ≡ full → least_full n ≤ (trailer e.before).length
+    → History slice words len lists ws told → InRun ws e → e.entry.code ≡ full → least_full n ≤ (trailer e.before).held.tree.length
 floor_in_history slice words len lists ws told n e c h r f =
     let m = exchange_met (means h).stands r in
     let o = asked e.entry in
@@ -205,7 +206,7 @@ floor_in_history slice words len lists ws told n e c h r f =
     rw (← same, trailer_length m.before) above
 
 pub window_floor : (slice words : List ℕ) (len : ℕ) (lists : List (List ℕ)) (ws told : List ℕ) (e : Exchange) → length slice ≡ 6144
-    → History slice words len lists ws told → InRun ws e → e.entry.code ≡ full → 16958 ≤ (trailer e.before).length
+    → History slice words len lists ws told → InRun ws e → e.entry.code ≡ full → 16958 ≤ (trailer e.before).held.tree.length
 window_floor slice words len lists ws told e size h r f =
     let b = built h in
     let nodes : b.nodes ≡ 1023 = omega (arith, b.counted.words) in

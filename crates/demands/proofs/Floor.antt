@@ -6,7 +6,7 @@ use native.Mathlib.Omega.{arith}
 use mathlib.Core.Path.{◌≡◌, sym, ap, ◌∙◌}
 use mathlib.Core.Bool.{Bool}
 use mathlib.Core.List.{List, [], ◌∷◌, map}
-use mathlib.Core.Option.{some}
+use Rattle.std.specs.Prelude.{Some, Err}
 use lib.ListN.{length}
 use borrow.Author.Tests.{le-leb, lt-ltb}
 use Rattle.model.specs.Limits.{least_full}
@@ -21,11 +21,11 @@ use Rattle.model.proofs.Sharp.{floor_reached}
 use Rattle.serve.specs.Orders as Serve
 use Rattle.order.specs.Asked.{Asked, inserting, removing}
 use Rattle.run.specs.Orders.{after, after_all, answer}
-use Rattle.order.specs.declared.answer.Answer.TheVariants.{Full}
+use Rattle.order.specs.declared.answer.Refusal.TheVariants.{Full}
 use Rattle.demands.proofs.Refusals.{full_if, full_only_if}
 
 -- any order that a sound pool answers Full
-pub full_above_floor : (n : ℕ) (o : Asked) (p : Pool) → Sound n p → answer o p ≡ Full → least_full n ≤ length (marks p.tree)
+pub full_above_floor : (n : ℕ) (o : Asked) (p : Pool) → Sound n p → answer o p ≡ Err Full → least_full n ≤ length (marks p.tree)
 full_above_floor n o p s e =
     let k = full_only_if n o p s e in
     let f = floor n k.0 p s (means_full k.0 p k.3.leaf_full k.3.few_free) in
@@ -53,8 +53,8 @@ becomes_after (out i ∷ cs) p q d =
 
 -- a build and orders lead to a pool that holds just so many marks and has no room
 pub sharp : (n : ℕ) → 1 ≤ n
-    → (xs : List Bool) × (p : Pool) × (os : List Asked) × (i : ℕ) × (Pool.build n xs ≡ some p) × Sound n (after_all os p)
-    × (length (marks (after_all os p).tree) ≡ least_full n) × ((b : Bool) → answer (inserting i b) (after_all os p) ≡ Full)
+    → (xs : List Bool) × (p : Pool) × (os : List Asked) × (i : ℕ) × (Pool.build n xs ≡ Some p) × Sound n (after_all os p)
+    × (length (marks (after_all os p).tree) ≡ least_full n) × ((b : Bool) → answer (inserting i b) (after_all os p) ≡ Err Full)
 sharp n least =
     let k = floor_reached n least in
     let q = k.pool in

@@ -19,7 +19,7 @@ use Rattle.order.specs.Answer.{code, value}
 use Rattle.run.specs.Runs.{order_count}
 use Rattle.window.specs.Calls.{Checked, Valued}
 use Rattle.run.specs.Orders.{answer_words, list_after_all, list_answers, orders_of}
-use Rattle.order.specs.declared.answer.Answer.TheVariants.{Done}
+use Rattle.std.specs.Prelude.{Ok}
 use Rattle.demands.specs.Following.{AgreeOrFull, Follows, NoneFull, carried_out, done}
 use Rattle.demands.specs.History.{History, all_orders, log}
 use Rattle.demands.specs.Promises.{HoldsMarks, given}
@@ -71,7 +71,7 @@ module _ {slice words : List ℕ} {len : ℕ} {begun orders ws told : List ℕ} 
   given_length : length (given words len) ≡ len
   given_length = length-take-le len (marks_of words) (omega (arith, marks_of_length words, b.enough))
 
-  pub by_count : (count : ℕ) → Checked ws (Done count) → count + done 2 (log orders told) ≡ len + done 1 (log orders told)
+  pub by_count : (count : ℕ) → Checked ws (Ok count) → count + done 2 (log orders told) ≡ len + done 1 (log orders told)
   unfolding value
   by_count count c =
       let p = becomes orders b.pool in
@@ -79,7 +79,7 @@ module _ {slice words : List ℕ} {len : ℕ} {begun orders ws told : List ℕ} 
       let lost = rw (← m.tells) at (NothingLost.nothing_lost orders b.pool m.whole) in
       omega (arith, size_marks p.tree, ap length (built_marks b), given_length)
 
-  pub by_marks : (out : List ℕ) (k : ℕ) (out' : List ℕ) → Valued ws out (Done k) out' → out' ≡ words_of k end_marks ++ drop k out
+  pub by_marks : (out : List ℕ) (k : ℕ) (out' : List ℕ) → Valued ws out (Ok k) out' → out' ≡ words_of k end_marks ++ drop k out
   unfolding code value
   by_marks out k out' v =
       let p = becomes orders b.pool in

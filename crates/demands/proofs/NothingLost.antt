@@ -19,7 +19,7 @@ use Rattle.model.specs.Word.{digit}
 use Rattle.order.specs.Asked.{asks, inserting, removing}
 use Rattle.order.specs.Plain.{in_range, list_answer, list_after}
 use Rattle.run.specs.Orders.{no_room, answer, after, answers, after_all, answer_words, orders_of}
-use Rattle.order.specs.declared.answer.Answer.TheVariants.{Done}
+use Rattle.std.specs.Prelude.{Ok}
 use Rattle.demands.specs.Following.{counts, done}
 use Rattle.demands.specs.History.{Entry, log}
 use Rattle.demands.proofs.OrderByOrder.{after_marks, by_kind}
@@ -39,14 +39,14 @@ insert_done i b p e =
     (λ u h. absurd (omega (arith, rw u at (rw (Serve.answer, t) at e)))))
 
 pub remove_done : (i : ℕ) (p : Pool) → code (answer (removing i) p) ≡ 0
-    → (i < length (marks p.tree)) × (answer (removing i) p ≡ Done (digit (Marks.access i (marks p.tree))))
+    → (i < length (marks p.tree)) × (answer (removing i) p ≡ Ok (digit (Marks.access i (marks p.tree))))
     × (marks (after (removing i) p).tree ≡ Marks.remove i (marks p.tree))
 unfolding Serve.answer Serve.no_room list_answer list_after code
 remove_done i p e =
     by_ltb i (length (marks p.tree))
     (λ u h. (
       h,
-      ap (λ (c : Bool). in_range c (Done (digit (Marks.access i (marks p.tree))))) u,
+      ap (λ (c : Bool). in_range c (Ok (digit (Marks.access i (marks p.tree))))) u,
       after_marks (removing i) p refl
           ∙ rw (list_after, u),
     ))

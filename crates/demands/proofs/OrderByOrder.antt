@@ -4,7 +4,7 @@ use native.Mathlib.Omega.{arith}
 use mathlib.Core.Path.{◌≡◌, refl, ap}
 use mathlib.Core.Bool.{Bool, true, false}
 use mathlib.Core.List.{List}
-use mathlib.Core.Option.{Option, none, some}
+use Rattle.std.specs.Prelude.{Option, None, Some, Ok}
 use lib.Dec.{leb, ltb}
 use lib.ListN.{length, drop}
 use Rattle.model.specs.Edit as Edit
@@ -23,7 +23,6 @@ use Rattle.order.specs.Plain.{in_range, placed, list_answer, list_after}
 use Rattle.serve.specs.Orders.{or_else}
 use Rattle.run.specs.Orders.{no_room, after}
 use Rattle.order.specs.Answer.{code}
-use Rattle.order.specs.declared.answer.Answer.TheVariants.{Done}
 
 -- 1 for an insert, and 0 for any other order
 unfoldable pub inserting_count : Asked → ℕ
@@ -76,8 +75,8 @@ by_kind {P = P} n x y ins rem ask unk = kinds n x y ins rem ask unk
     kinds (suc (suc (suc (suc (suc (suc (suc n))))))) x y ins rem ask unk = unk refl
 
 -- an insert has room or has none
-pub by_room : {P : Type 0} (i : ℕ) (b : Bool) (p : Pool) → (Pool.full (two_free p) i p ≡ true → Pool.insert (two_free p) i b p ≡ none → P)
-    → ((q : Pool) → Pool.full (two_free p) i p ≡ false → Pool.insert (two_free p) i b p ≡ some q → P) → P
+pub by_room : {P : Type 0} (i : ℕ) (b : Bool) (p : Pool) → (Pool.full (two_free p) i p ≡ true → Pool.insert (two_free p) i b p ≡ None → P)
+    → ((q : Pool) → Pool.full (two_free p) i p ≡ false → Pool.insert (two_free p) i b p ≡ Some q → P) → P
 unfolding Pool.insert
 by_room i b p f g =
     by_test (Pool.full (two_free p) i p)
@@ -92,13 +91,13 @@ pub list_codes : (o : Asked) (xs : List Bool) → (code (list_answer o xs) ≡ 4
 unfolding list_answer code
 list_codes o xs = listed o
   where
-    ranged : (b : Bool) (v : ℕ) → (code (in_range b (Done v)) ≡ 4 → ⊥) × (code (in_range b (Done v)) ≤ 5)
+    ranged : (b : Bool) (v : ℕ) → (code (in_range b (Ok v)) ≡ 4 → ⊥) × (code (in_range b (Ok v)) ≤ 5)
     ranged true v = ((λ e. omega arith), omega arith)
     ranged false v = ((λ e. omega arith), omega arith)
 
     found : (m : Option ℕ) → (code (placed m) ≡ 4 → ⊥) × (code (placed m) ≤ 5)
-    found none = ((λ e. omega arith), omega arith)
-    found (some v) = ((λ e. omega arith), omega arith)
+    found None = ((λ e. omega arith), omega arith)
+    found (Some v) = ((λ e. omega arith), omega arith)
 
     listed : (o : Asked) → (code (list_answer o xs) ≡ 4 → ⊥) × (code (list_answer o xs) ≤ 5)
     listed (inserting i b) = ranged (leb i (length xs)) 0

@@ -4,21 +4,19 @@ use native.Mathlib.Nat.{add-zero}
 use native.Mathlib.Omega.{arith}
 use mathlib.Core.Path.{◌≡◌, refl, sym, ap, ap₂, ◌∙◌}
 use mathlib.Core.List.{List, [], ◌∷◌, ◌++◌}
-use mathlib.Core.Option.{Option, none, some}
+use Rattle.std.specs.Prelude.{Option, None, Some, Ok}
 use lib.ListN.{length, take, drop, get_or, length-append}
 use lib.Seq.{take_at, get_or-append-add}
 use Rattle.model.specs.Pool as Pool
 use Rattle.model.specs.Pool.{Pool}
 use Rattle.model.specs.Word.{marks_of}
 use Rattle.model.proofs.Cases.{by_ltb}
-use Rattle.order.specs.Answer.{code, value}
+use Rattle.order.specs.Answer.{Answer, code, value}
 use Rattle.run.specs.Runs.{order_count}
 use Rattle.window.specs.Calls.{NoPool, BuildsTo}
 use Rattle.window.specs.Layout.{Counted, Stands}
 use Rattle.order.specs.Asked.{Asked, asks}
 use Rattle.run.specs.Orders.{orders_of, answer, after, answers, after_all, answer_words}
-use Rattle.order.specs.declared.answer.Answer.{Answer}
-use Rattle.order.specs.declared.answer.Answer.TheVariants.{Done}
 use Rattle.window.proofs.Pinned.{Likely, cases}
 use Rattle.demands.specs.History.{Accepted, Exchange, InRun, Runs, all_orders, asked, order_words}
 
@@ -89,7 +87,7 @@ pub record Means (n : ℕ) (p : Pool) (orders ws' told : List ℕ) : Type 0 wher
   pub tells : told ≡ tells orders p
 
 -- an answer that is done is no refusal
-pub done_no : {A : Type 0} {r : Answer} (v : ℕ) (c : ℕ) → Done v ≡ r → code r ≡ suc c → A
+pub done_no : {A : Type 0} {r : Answer} (v : ℕ) (c : ℕ) → Ok v ≡ r → code r ≡ suc c → A
 unfolding code
 done_no v c e h = absurd (omega (arith, ap code e))
 
@@ -158,10 +156,10 @@ pub record Built (slice words : List ℕ) (len : ℕ) (begun : List ℕ) : Type 
   pub pool : Pool
   pub counted : Counted slice nodes
   pub enough : len ≤ 64 * length words
-  pub made : Pool.build nodes (take len (marks_of words)) ≡ some pool
+  pub made : Pool.build nodes (take len (marks_of words)) ≡ Some pool
   pub stands : Stands begun nodes pool
 
-pub build_means : {slice words : List ℕ} {len : ℕ} {begun : List ℕ} → BuildsTo slice words len (Done len) begun → Built slice words len begun
+pub build_means : {slice words : List ℕ} {len : ℕ} {begun : List ℕ} → BuildsTo slice words len (Ok len) begun → Built slice words len begun
 unfolding code
 build_means {slice = slice} {words = words} {len = len} {begun = begun} b =
     counts slice (λ d. done_no len 5 (b.no_pool d).0 refl)
@@ -170,8 +168,8 @@ build_means {slice = slice} {words = words} {len = len} {begun = begun} b =
   where
     made : (n : ℕ) → Counted slice n → len ≤ 64 * length words → (o : Option Pool) → Pool.build n (take len (marks_of words)) ≡ o
         → Built slice words len begun
-    made n c h none e = done_no len 3 (b.full n c h e).0 refl
-    made n c h (some p) e = record { nodes = n; pool = p; counted = c; enough = h; made = e; stands = (b.built n p c h e).1 }
+    made n c h None e = done_no len 3 (b.full n c h e).0 refl
+    made n c h (Some p) e = record { nodes = n; pool = p; counted = c; enough = h; made = e; stands = (b.built n p c h e).1 }
 
 -- ---- one order among others
 

@@ -20,7 +20,8 @@ use Rattle.serve.specs.Orders as Serve
 use Rattle.order.specs.Asked.{Asked, inserting, removing, accessing, ranking, selecting, quiet, unknown}
 use Rattle.order.specs.Plain.{in_range, placed, list_answer}
 use Rattle.run.specs.Orders.{answer, after}
-use Rattle.order.specs.declared.answer.Answer.TheVariants.{Done, OutOfRange, NoZeroth, TooFew, Full, Malformed}
+use Rattle.std.specs.Prelude.{Ok, Err}
+use Rattle.order.specs.declared.answer.Refusal.TheVariants.{OutOfRange, NoZeroth, TooFew, Full, Malformed}
 use Rattle.demands.proofs.OrderByOrder.{list_codes, by_room}
 
 -- an insert at place i finds no room: the place is in range, its leaf holds 127 marks, and fewer than two nodes are free
@@ -36,7 +37,7 @@ refused_changes_nothing (inserting i b) p refused =
     by_leb i (length (marks p.tree))
     (λ t h. by_room i b p
     (λ _ f. rw (Serve.after, t, f))
-    (λ q f _. absurd (refused (rw (Serve.answer, Serve.no_room, t, f) (ap (λ (c : Bool). code (in_range c (Done 0))) t)))))
+    (λ q f _. absurd (refused (rw (Serve.answer, Serve.no_room, t, f) (ap (λ (c : Bool). code (in_range c (Ok 0))) t)))))
     (λ t h. rw (Serve.after, t))
 refused_changes_nothing (removing i) p refused =
     by_ltb i (length (marks p.tree)) (λ t h. absurd (refused (rw (Serve.answer, Serve.no_room, list_answer, t)))) (λ t h. rw (Serve.after, t))
@@ -49,52 +50,52 @@ refused_changes_nothing unknown p refused = refl
 -- ---- the code is the first that applies
 
 -- 5: an unknown number, or a word that is not as it should be
-pub first_5 : (p : Pool) → answer unknown p ≡ Malformed
+pub first_5 : (p : Pool) → answer unknown p ≡ Err Malformed
 unfolding Serve.answer Serve.no_room list_answer
 first_5 p = refl
 
 -- 2: the zeroth mark is asked for
-pub first_2 : (b : Bool) (p : Pool) → answer (selecting zero b) p ≡ NoZeroth
+pub first_2 : (b : Bool) (p : Pool) → answer (selecting zero b) p ≡ Err NoZeroth
 unfolding Serve.answer Serve.no_room list_answer
 first_2 b p = refl
 
 -- 1: a place out of range
-pub first_1_insert : (i : ℕ) (b : Bool) (p : Pool) → length (marks p.tree) < i → answer (inserting i b) p ≡ OutOfRange
+pub first_1_insert : (i : ℕ) (b : Bool) (p : Pool) → length (marks p.tree) < i → answer (inserting i b) p ≡ Err OutOfRange
 unfolding Serve.answer Serve.no_room list_answer
 first_1_insert i b p h =
     by_leb i (length (marks p.tree)) (λ t k. absurd (omega arith))
-    (λ t k. rw (Serve.answer, Serve.no_room, t) (ap (λ (c : Bool). in_range c (Done 0)) t))
+    (λ t k. rw (Serve.answer, Serve.no_room, t) (ap (λ (c : Bool). in_range c (Ok 0)) t))
 
-pub first_1_remove : (i : ℕ) (p : Pool) → length (marks p.tree) ≤ i → answer (removing i) p ≡ OutOfRange
+pub first_1_remove : (i : ℕ) (p : Pool) → length (marks p.tree) ≤ i → answer (removing i) p ≡ Err OutOfRange
 unfolding Serve.answer Serve.no_room list_answer
 first_1_remove i p h = by_ltb i (length (marks p.tree)) (λ t k. absurd (omega arith)) (λ t k. rw (Serve.answer, Serve.no_room, list_answer, t))
 
-pub first_1_access : (i : ℕ) (p : Pool) → length (marks p.tree) ≤ i → answer (accessing i) p ≡ OutOfRange
+pub first_1_access : (i : ℕ) (p : Pool) → length (marks p.tree) ≤ i → answer (accessing i) p ≡ Err OutOfRange
 unfolding Serve.answer Serve.no_room list_answer
 first_1_access i p h = by_ltb i (length (marks p.tree)) (λ t k. absurd (omega arith)) (λ t k. rw (Serve.answer, Serve.no_room, list_answer, t))
 
-pub first_1_rank : (end : ℕ) (b : Bool) (p : Pool) → length (marks p.tree) < end → answer (ranking end b) p ≡ OutOfRange
+pub first_1_rank : (end : ℕ) (b : Bool) (p : Pool) → length (marks p.tree) < end → answer (ranking end b) p ≡ Err OutOfRange
 unfolding Serve.answer Serve.no_room list_answer
 first_1_rank end b p h = by_leb end (length (marks p.tree)) (λ t k. absurd (omega arith)) (λ t k. rw (Serve.answer, Serve.no_room, list_answer, t))
 
 -- 3: fewer marks of the kind than asked for
-pub first_3 : (k : ℕ) (b : Bool) (p : Pool) → Marks.count b (marks p.tree) < suc k → answer (selecting (suc k) b) p ≡ TooFew
+pub first_3 : (k : ℕ) (b : Bool) (p : Pool) → Marks.count b (marks p.tree) < suc k → answer (selecting (suc k) b) p ≡ Err TooFew
 unfolding Serve.answer Serve.no_room list_answer
 first_3 k b p h = ap placed (select_none b (suc k) (marks p.tree) h)
 
 -- 4: Full, exactly where an insert in range leads to a leaf of 127 marks and fewer than two nodes are free
-pub full_if : (i : ℕ) (b : Bool) (p : Pool) → Roomless i p → answer (inserting i b) p ≡ Full
+pub full_if : (i : ℕ) (b : Bool) (p : Pool) → Roomless i p → answer (inserting i b) p ≡ Err Full
 unfolding Serve.answer Serve.no_room
 full_if i b p r =
     let f = means_full i p r.leaf_full r.few_free in
     by_leb i (length (marks p.tree)) (λ t k. rw (Serve.answer, Serve.no_room, t, f)) (λ t k. absurd (omega (arith, r.in_range)))
 
 -- the list does not answer it
-list_not_full : (o : Asked) (xs : List Bool) → list_answer o xs ≡ Full → ⊥
+list_not_full : (o : Asked) (xs : List Bool) → list_answer o xs ≡ Err Full → ⊥
 unfolding code
 list_not_full o xs e = (list_codes o xs).0 (ap code e)
 
-pub full_insert : (n i : ℕ) (b : Bool) (p : Pool) → Sound n p → answer (inserting i b) p ≡ Full → Roomless i p
+pub full_insert : (n i : ℕ) (b : Bool) (p : Pool) → Sound n p → answer (inserting i b) p ≡ Err Full → Roomless i p
 unfolding Serve.answer Serve.no_room list_answer code
 full_insert n i b p s e =
     by_leb i (length (marks p.tree))
@@ -103,7 +104,7 @@ full_insert n i b p s e =
     (λ f. let k = rw (Serve.answer, Serve.no_room, t, f) at e in absurd (list_not_full (inserting i b) (marks p.tree) k)))
     (λ t h. let k = rw (Serve.answer, Serve.no_room, t) at e in absurd (list_not_full (inserting i b) (marks p.tree) k))
 
-pub full_only_if : (n : ℕ) (o : Asked) (p : Pool) → Sound n p → answer o p ≡ Full → (i : ℕ) × (b : Bool) × (o ≡ inserting i b) × Roomless i p
+pub full_only_if : (n : ℕ) (o : Asked) (p : Pool) → Sound n p → answer o p ≡ Err Full → (i : ℕ) × (b : Bool) × (o ≡ inserting i b) × Roomless i p
 unfolding Serve.answer Serve.no_room list_answer code
 full_only_if n (inserting i b) p s e = (i, b, refl, full_insert n i b p s e)
 full_only_if n (removing i) p s e = absurd (list_not_full (removing i) (marks p.tree) e)

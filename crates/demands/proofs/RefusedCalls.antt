@@ -6,23 +6,21 @@ use Prim.Native.Nat.{ℕ, ◌*◌, ◌%◌, ◌≤◌, ◌<◌}
 use native.Mathlib.Omega.{arith}
 use mathlib.Core.Path.{◌≡◌, refl, ap}
 use mathlib.Core.List.{List}
-use mathlib.Core.Option.{Option, none, some}
+use Rattle.std.specs.Prelude.{Option, None, Some, Ok}
 use lib.ListN.{length, take}
 use Rattle.model.specs.Pool as Pool
 use Rattle.model.specs.Pool.{Pool}
 use Rattle.model.specs.Tree.{size}
 use Rattle.model.specs.Word.{marks_of, words_for}
 use Rattle.model.proofs.Cases.{by_ltb}
-use Rattle.order.specs.Answer.{code}
+use Rattle.order.specs.Answer.{Answer, code}
 use Rattle.run.specs.Runs.{Ran, Unchanged, order_count}
 use Rattle.window.specs.Calls.{BuildsTo, Valued}
 use Rattle.window.specs.Layout.{Counted}
-use Rattle.order.specs.declared.answer.Answer.{Answer}
-use Rattle.order.specs.declared.answer.Answer.TheVariants.{Done}
 use Rattle.window.proofs.Pinned.{Likely, words_stable, sized, cases}
 
 -- an answer that is done has the code 0
-done_code : {A : Type 0} (r : Answer) (v : ℕ) → (code r ≡ 0 → ⊥) → r ≡ Done v → A
+done_code : {A : Type 0} (r : Answer) (v : ℕ) → (code r ≡ 0 → ⊥) → r ≡ Ok v → A
 unfolding code
 done_code r v refused e = absurd (refused (ap code e))
 
@@ -33,8 +31,8 @@ build_refused ws words len r ws' b refused =
     (λ n c. by_ltb (64 * length words) len (λ _ h. (b.too_long n c h).1) (λ _ h. made n c h (Pool.build n (take len (marks_of words))) refl)))
   where
     made : (n : ℕ) → Counted ws n → len ≤ 64 * length words → (o : Option Pool) → Pool.build n (take len (marks_of words)) ≡ o → ws' ≡ ws
-    made n c h none e = (b.full n c h e).1
-    made n c h (some p) e = done_code r len refused (b.built n p c h e).0
+    made n c h None e = (b.full n c h e).1
+    made n c h (Some p) e = done_code r len refused (b.built n p c h e).0
 
 pub values_refused : (ws out : List ℕ) (r : Answer) (out' : List ℕ) → Valued ws out r out' → (code r ≡ 0 → ⊥) → out' ≡ out
 values_refused ws out r out' v refused =

@@ -18,7 +18,8 @@ use Rattle.serve.specs.Orders as Serve
 use Rattle.order.specs.Asked.{Asked, asks}
 use Rattle.order.specs.Plain.{list_answer, list_after}
 use Rattle.run.specs.Orders.{orders_of, no_room, answer, after, answers, after_all, answer_words, list_after_all, list_answers}
-use Rattle.order.specs.declared.answer.Answer.TheVariants.{Full}
+use Rattle.std.specs.Prelude.{Err}
+use Rattle.order.specs.declared.answer.Refusal.TheVariants.{Full}
 use Rattle.demands.specs.Following.{Follows, NoneFull, carried_out}
 use Rattle.demands.specs.History.{log}
 use Rattle.demands.proofs.OrderByOrder.{after_full, after_marks}
@@ -26,7 +27,7 @@ use Rattle.demands.proofs.Reading.{tells, becomes}
 use Rattle.demands.proofs.Refusals.{refused_changes_nothing}
 
 -- an order that finds no room
-pub one_order_full : (o : Asked) (p : Pool) → no_room o p ≡ true → (answer o p ≡ Full) × (after o p ≡ p)
+pub one_order_full : (o : Asked) (p : Pool) → no_room o p ≡ true → (answer o p ≡ Err Full) × (after o p ≡ p)
 unfolding Serve.answer
 one_order_full o p e = (rw (Serve.answer, e), after_full o p e)
 

@@ -6,7 +6,7 @@ use mathlib.Core.Path.{◌≡◌, refl, sym, ap, ◌∙◌}
 use mathlib.Core.Bool.{Bool, true, false}
 use mathlib.Core.List.{List, [], ◌∷◌}
 use mathlib.Core.Logic.{inl, inr}
-use mathlib.Core.Option.{none, some}
+use Rattle.std.specs.Prelude.{None, Some, Ok, Err}
 use lib.Dec.{leb, ltb}
 use lib.ListN.{length}
 use Rattle.model.specs.Pool as Pool
@@ -15,13 +15,12 @@ use Rattle.model.specs.Tree.{marks}
 use Rattle.model.proofs.Cases.{by_leb, by_ltb}
 use Rattle.model.proofs.Content.{size_marks}
 use Rattle.model.proofs.TwoPools.{Wider, Steps, alike, both_full, one_full, build_wider, insert_wider, remove_wider}
-use Rattle.order.specs.Answer.{code, value}
+use Rattle.order.specs.Answer.{Answer, code, value}
 use Rattle.serve.specs.Orders as Serve
 use Rattle.order.specs.Asked.{Asked, inserting, removing, accessing, ranking, selecting, quiet, unknown, asks}
 use Rattle.order.specs.Plain.{in_range, list_answer}
 use Rattle.run.specs.Orders.{orders_of, answer, after, answers, answer_words}
-use Rattle.order.specs.declared.answer.Answer.{Answer}
-use Rattle.order.specs.declared.answer.Answer.TheVariants.{Done, Full}
+use Rattle.order.specs.declared.answer.Refusal.TheVariants.{Full}
 use Rattle.demands.specs.Following.{AgreeOrFull}
 use Rattle.demands.specs.History.{Entry, log}
 use Rattle.demands.proofs.OrderByOrder.{by_room}
@@ -30,29 +29,29 @@ use Rattle.demands.proofs.Reading.{tells}
 -- what one order makes of both: they agree and are as they were to each other, or the smaller is full and the larger is not
 pub data Both (p q : Pool) (a b : Answer) : Type 0 where
   agree : a ≡ b → Wider p q → Both p q a b
-  smaller_full : a ≡ Full → (code b ≡ 4 → ⊥) → Both p q a b
+  smaller_full : a ≡ Err Full → (code b ≡ 4 → ⊥) → Both p q a b
 
 -- an insert in range, by what the model's insert makes of the pool
-in_room : (i : ℕ) (b : Bool) (p q : Pool) → leb i (length (marks p.tree)) ≡ true → Pool.insert (two_free p) i b p ≡ some q
-    → (answer (inserting i b) p ≡ Done 0) × (after (inserting i b) p ≡ q)
+in_room : (i : ℕ) (b : Bool) (p q : Pool) → leb i (length (marks p.tree)) ≡ true → Pool.insert (two_free p) i b p ≡ Some q
+    → (answer (inserting i b) p ≡ Ok 0) × (after (inserting i b) p ≡ q)
 unfolding Serve.answer Serve.no_room Serve.after list_answer
 in_room i b p q t e =
     by_room i b p
-    (λ _ f. let z : none ≡ some q = sym f ∙ e in let n : ◌≡◌ {A = ℕ} 0 1 = cc in absurd (omega arith))
-    (λ r f g. (rw (Serve.answer, Serve.no_room, t, f) (ap (λ (c : Bool). in_range c (Done 0)) t), rw (Serve.after, t, e)))
+    (λ _ f. let z : None ≡ Some q = sym f ∙ e in let n : ◌≡◌ {A = ℕ} 0 1 = cc in absurd (omega arith))
+    (λ r f g. (rw (Serve.answer, Serve.no_room, t, f) (ap (λ (c : Bool). in_range c (Ok 0)) t), rw (Serve.after, t, e)))
 
-no_more_room : (i : ℕ) (b : Bool) (p : Pool) → leb i (length (marks p.tree)) ≡ true → Pool.insert (two_free p) i b p ≡ none
-    → (answer (inserting i b) p ≡ Full) × (after (inserting i b) p ≡ p)
+no_more_room : (i : ℕ) (b : Bool) (p : Pool) → leb i (length (marks p.tree)) ≡ true → Pool.insert (two_free p) i b p ≡ None
+    → (answer (inserting i b) p ≡ Err Full) × (after (inserting i b) p ≡ p)
 unfolding Serve.answer Serve.no_room Serve.after
 no_more_room i b p t e =
     by_room i b p
     (λ f _. (rw (Serve.answer, Serve.no_room, t, f), rw (Serve.after, t, e)))
-    (λ r f g. let z : none ≡ some r = sym e ∙ g in let n : ◌≡◌ {A = ℕ} 0 1 = cc in absurd (omega arith))
+    (λ r f g. let z : None ≡ Some r = sym e ∙ g in let n : ◌≡◌ {A = ℕ} 0 1 = cc in absurd (omega arith))
 
 out_of_range : (i : ℕ) (b : Bool) (p : Pool) → leb i (length (marks p.tree)) ≡ false
-    → (answer (inserting i b) p ≡ in_range false (Done 0)) × (after (inserting i b) p ≡ p)
+    → (answer (inserting i b) p ≡ in_range false (Ok 0)) × (after (inserting i b) p ≡ p)
 unfolding Serve.answer Serve.no_room Serve.after list_answer
-out_of_range i b p t = (rw (Serve.answer, Serve.no_room, t) (ap (λ (c : Bool). in_range c (Done 0)) t), rw (Serve.after, t))
+out_of_range i b p t = (rw (Serve.answer, Serve.no_room, t) (ap (λ (c : Bool). in_range c (Ok 0)) t), rw (Serve.after, t))
 
 inserts : (i : ℕ) (b : Bool) (p q : Pool) → Wider p q
     → leb i (length (marks p.tree)) ≡ true → leb i (length (marks q.tree)) ≡ true
@@ -120,5 +119,5 @@ wider_answers (n ∷ x ∷ y ∷ orders) p q h w =
 
 -- any build that both accept, and any orders
 pub two_pools : (n m : ℕ) (xs : List Bool) (p q : Pool) (orders : List ℕ) → length orders % 3 ≡ 0 → n ≤ m
-    → Pool.build n xs ≡ some p → Pool.build m xs ≡ some q → AgreeOrFull (log orders (tells orders p)) (log orders (tells orders q))
+    → Pool.build n xs ≡ Some p → Pool.build m xs ≡ Some q → AgreeOrFull (log orders (tells orders p)) (log orders (tells orders q))
 two_pools n m xs p q orders whole h e f = wider_answers orders p q whole (build_wider n m xs p q h e f)

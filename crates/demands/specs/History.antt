@@ -1,13 +1,12 @@
 -- What a host does with one window, in the words that it lends and reads: it builds, and then runs list after list.
 -- Only calls that were accepted are told here, those that were answered 0; a call that is refused changes no word, so
 -- it may be left out.
-use Rattle.std.specs.Prelude.{ℕ, ◌+◌, ◌-◌, ◌*◌, ◌≡◌, List, [], ◌∷◌, ◌++◌, length, take, drop, get_or}
+use Rattle.std.specs.Prelude.{ℕ, ◌+◌, ◌-◌, ◌*◌, ◌≡◌, List, [], ◌∷◌, ◌++◌, length, take, drop, get_or, Ok}
 use Rattle.pool.specs.Node.{node_words}
 use Rattle.run.specs.Runs.{Ran, order_count}
 use Rattle.window.specs.Calls.{BuildsTo}
 use Rattle.window.specs.Layout.{WellFormed, trailer_in}
 use Rattle.order.specs.Asked.{Asked, asks}
-use Rattle.order.specs.declared.answer.Answer.TheVariants.{Done}
 use Rattle.window.specs.declared.trailer.Trailer.{Trailer}
 
 -- the trailer of a pool: its last six words
@@ -45,7 +44,7 @@ log (n ∷ x ∷ y ∷ orders) (c ∷ v ∷ told) =
 pub record Accepted (ws orders ws' told : List ℕ) : Type 0 where
   pub out : List ℕ
   pub out' : List ℕ
-  pub ran : Ran ws orders out (Done (order_count orders)) ws' out'
+  pub ran : Ran ws orders out (Ok (order_count orders)) ws' out'
   pub answers : told ≡ take (2 * order_count orders) out'
 
 -- several lists, one after the other; `told` are all their answers
@@ -64,7 +63,7 @@ all_orders (orders ∷ lists) = orders ++ all_orders lists
 -- The words are ws now, and `told` is all that was answered.
 pub record History (slice words : List ℕ) (len : ℕ) (lists : List (List ℕ)) (ws told : List ℕ) : Type 0 where
   pub begun : List ℕ
-  pub built : BuildsTo slice words len (Done len) begun
+  pub built : BuildsTo slice words len (Ok len) begun
   pub ran : Runs lists begun ws told
 
 -- ---- one order among others

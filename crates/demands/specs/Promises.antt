@@ -1,8 +1,8 @@
 -- What is promised, each sentence as a statement of the calls: of the words that a host lends, and of the codes and
 -- values that it reads. What a call answers and leaves is said in window/specs/Calls.antt, how a pool stands in words
 -- in window/specs/Layout.antt. The proofs are cited in proofs/Kept.antt.
-use Rattle.std.specs.Prelude.{ℕ, ◌+◌, ◌≤◌, ◌<◌, ◌≡◌, Bool, List, ◌++◌, length, take, drop}
-use Rattle.std.proofs.Math.Option.{some}
+use Rattle.std.specs.Prelude.{ℕ, ◌+◌, ◌≤◌, ◌<◌, ◌≡◌, Bool, List, ◌++◌, length, take, drop, Ok, Err}
+use Rattle.std.specs.Prelude.{Some}
 use Rattle.model.specs.Edit.{leaf_at}
 use Rattle.model.specs.Limits.{least_full}
 use Rattle.model.specs.Marks as Marks
@@ -11,15 +11,14 @@ use Rattle.model.specs.Pool.{Pool}
 use Rattle.model.specs.Sound.{Sound, leaf_most}
 use Rattle.model.specs.Tree.{marks}
 use Rattle.model.specs.Word.{digit, marks_of, words_of}
-use Rattle.order.specs.Answer.{code}
+use Rattle.order.specs.Answer.{Answer, code}
 use Rattle.run.specs.Runs.{Ran, order_count}
 use Rattle.window.specs.Calls.{BuildsTo, Checked, Valued}
 use Rattle.window.specs.Layout.{Counted, Stands}
 use Rattle.order.specs.Asked.{Asked, inserting}
 use Rattle.order.specs.Plain.{list_after}
 use Rattle.run.specs.Orders.{after_all, answer, answer_words, list_after_all, list_answers, orders_of}
-use Rattle.order.specs.declared.answer.Answer.{Answer}
-use Rattle.order.specs.declared.answer.Answer.TheVariants.{Done, Full}
+use Rattle.order.specs.declared.answer.Refusal.TheVariants.{Full}
 use Rattle.demands.specs.Following.{full, ListAnswers, TellsFull, Follows, NoneFull, AllRefused, AgreeOrFull, carried_out, done}
 use Rattle.demands.specs.History.{Accepted, Entry, Exchange, History, InRun, all_orders, asked, log, trailer}
 
@@ -85,9 +84,9 @@ pub record Inserts (e : Entry) : Type 0 where
 -- an insert at place i finds no room in the words ws of a pool p: the place is at most the length, the leaf that it
 -- leads to holds 127 marks, and the trailer counts fewer than two free nodes
 pub record NoRoom (ws : List ℕ) (p : Pool) (i : ℕ) : Type 0 where
-  pub in_range : i ≤ (trailer ws).length
+  pub in_range : i ≤ (trailer ws).held.tree.length
   pub leaf_full : length (leaf_at i p.tree) ≡ leaf_most
-  pub few_free : (trailer ws).chain.count < 2
+  pub few_free : (trailer ws).held.chain.count < 2
 
 -- that is exactly when an insert is answered 4, 0
 abbrev pub FullExactly : Type 0
@@ -110,14 +109,14 @@ abbrev pub NoFullBelowTheFloor : Type 0
 NoFullBelowTheFloor =
     (slice words : List ℕ) (len : ℕ) (lists : List (List ℕ)) (ws told : List ℕ) (n : ℕ) (e : Exchange)
     → Counted slice n → History slice words len lists ws told → InRun ws e → e.entry.code ≡ full
-    → least_full n ≤ (trailer e.before).length
+    → least_full n ≤ (trailer e.before).held.tree.length
 
 -- a window's pool: 6,144 words
 abbrev pub NoFullBelow16958 : Type 0
 NoFullBelow16958 =
     (slice words : List ℕ) (len : ℕ) (lists : List (List ℕ)) (ws told : List ℕ) (e : Exchange)
     → length slice ≡ 6144 → History slice words len lists ws told → InRun ws e → e.entry.code ≡ full
-    → 16958 ≤ (trailer e.before).length
+    → 16958 ≤ (trailer e.before).held.tree.length
 
 -- no greater number can be promised: for every count of nodes there are a build and orders after which a sound pool
 -- holds exactly so many marks and has no room for an insert
@@ -125,9 +124,9 @@ abbrev pub FloorIsSharp : Type 0
 FloorIsSharp =
     (n : ℕ) → 1 ≤ n
     → (xs : List Bool) × (p : Pool) × (os : List Asked) × (i : ℕ)
-    × (Pool.build n xs ≡ some p) × Sound n (after_all os p)
+    × (Pool.build n xs ≡ Some p) × Sound n (after_all os p)
     × (length (marks (after_all os p).tree) ≡ least_full n)
-    × ((b : Bool) → answer (inserting i b) (after_all os p) ≡ Full)
+    × ((b : Bool) → answer (inserting i b) (after_all os p) ≡ Err Full)
 
 -- ---- 4: nothing is lost
 
@@ -136,7 +135,7 @@ FloorIsSharp =
 abbrev pub NothingLostByCount : Type 0
 NothingLostByCount =
     (slice words : List ℕ) (len : ℕ) (lists : List (List ℕ)) (ws told : List ℕ) (count : ℕ)
-    → History slice words len lists ws told → Checked ws (Done count)
+    → History slice words len lists ws told → Checked ws (Ok count)
     → count + done 2 (log (all_orders lists) told) ≡ len + done 1 (log (all_orders lists) told)
 
 -- by marks: what values writes after a history are the marks of the build with exactly the orders answered 0 carried
@@ -144,7 +143,7 @@ NothingLostByCount =
 abbrev pub NothingLostByMarks : Type 0
 NothingLostByMarks =
     (slice words : List ℕ) (len : ℕ) (lists : List (List ℕ)) (ws told out : List ℕ) (k : ℕ) (out' : List ℕ)
-    → History slice words len lists ws told → Valued ws out (Done k) out'
+    → History slice words len lists ws told → Valued ws out (Ok k) out'
     → out' ≡ words_of k (carried_out (log (all_orders lists) told) (given words len)) ++ drop k out
 
 -- an insert that is answered 0 is in the marks, and a remove that is answered 0 is out of them

@@ -60,10 +60,10 @@ pub record Toward (f : Fork) (total index : ℕ) (s : Step) : Type 0 where
 
 -- the child that the step leads to stands at its number, and the place is one of it
 pub record Reached (s : Step) (total index : ℕ) (l r : Tree) : Type 0 where
-  pub at : top (side s.left l r) ≡ s.child
-  pub total_is : size (side s.left l r) ≡ s.length
-  pub up_to : index ≤ total → s.index ≤ s.length
-  pub below : index < total → s.index < s.length
+  pub at : top (side s.left l r) ≡ s.child.node
+  pub total_is : size (side s.left l r) ≡ s.child.length
+  pub up_to : index ≤ total → s.index ≤ s.child.length
+  pub below : index < total → s.index < s.child.length
 
 module _ {f : Fork} {total index : ℕ} {s : Step} (n : ℕ) (l r : Tree) (e : f ≡ fork_of l r) (toward : Toward f total index s) where
   -- a step leads to the left or to the right
@@ -122,7 +122,7 @@ module _ {w : List ℕ} {n levels head total index : ℕ} {f : Fork} {s : Step} 
     -- the child stands in words that are the same at its numbers and at the chain's
     abbrev pub child_stands : {v : List ℕ}
         → ((k : ℕ) → Memᴰ k (numbers (side s.left d.l d.r) ++ b.free) → node_at v k ≡ node_at w k)
-        → SiteAt v s.child (levels - 1) head s.length
+        → SiteAt v s.child.node (levels - 1) head s.child.length
     child_stands same =
         record {
           end = b.end;

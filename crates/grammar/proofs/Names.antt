@@ -1,85 +1,83 @@
--- The names of lines, sought one after the other in a row of all of them.
-use Prim.Native.Nat.{ℕ, zero, suc, ◌+◌, ◌-◌, ◌≤◌, ◌<◌}
-use native.Mathlib.Numerals.{add-one}
-use native.Mathlib.Omega.{arith}
-use mathlib.Core.Path.{◌≡◌, refl, sym, ◌∙◌}
-use mathlib.Core.Bool.{Bool, true, false}
-use mathlib.Core.List.{List, [], ◌∷◌}
-use lib.ListN.{length, get_or, take, drop}
-use lib.Seq.{drop-cons}
+-- The names of lines, by their bytes.
+use Rattle.std.proofs.Common.{ℕ, ◌≡◌, refl, sym, List, length, get_or, false}
+use Rattle.std.specs.Prelude.{None, Some}
+use Rattle.std.proofs.lemmas.Slice.Eq.{HasBytesAt, text_from_reads}
+use Rattle.model.proofs.Cases.{by_test}
 use Rattle.text.specs.Text.{same}
-use Rattle.grammar.specs.Lines.{all_spelled, first_named, named, names, spelled}
-use Rattle.grammar.specs.declared.fields.Name.TheVariants.{Other}
+use Rattle.text.proofs.Cutting.{same_decides}
+use Rattle.grammar.specs.Lines.{first_named, named, spelled}
+use Rattle.grammar.specs.declared.fields.Name.{Name}
+use Rattle.grammar.specs.declared.fields.Name.TheVariants.{Pool, Load, Insert, Remove, Get, Rank, Select, Gap, Dump}
 
--- ---- the row
+not_same : (a b : List ℕ) → (a ≡ b → ⊥) → same a b ≡ false
+not_same a b n = by_test (same a b) (λ t. absurd (n ((same_decides a b).0 t))) (λ f. f)
 
--- where each name begins, and where the last one ends
-abbrev pub starts : List ℕ
-starts = 0 ∷ 4 ∷ 8 ∷ 11 ∷ 14 ∷ 17 ∷ 21 ∷ 24 ∷ 27 ∷ 31 ∷ []
+-- a name's bytes, and nothing else
+pub record Read (bs : List ℕ) (n : Name) : Type 0 where
+  pub as_long : length bs ≡ length (spelled n)
+  pub bytes : HasBytesAt bs 0 (spelled n)
 
--- name i stands from its start to the next
-pub record Stretch (i from to : ℕ) : Type 0 where
-  pub start : get_or starts i 0 ≡ from
-  pub end : get_or starts (i + 1) 0 ≡ to
-  pub first : from ≤ to
-  pub last : to ≤ 31
-  pub word : take (to - from) (drop from (all_spelled names)) ≡ spelled (get_or names i Other)
+read_back : (n : Name) → Read (spelled n) n
+unfolding spelled
+read_back Pool = record { as_long = refl; bytes = (refl, (refl, (refl, (refl, tt)))) }
+read_back Load = record { as_long = refl; bytes = (refl, (refl, (refl, (refl, tt)))) }
+read_back Insert = record { as_long = refl; bytes = (refl, (refl, (refl, tt))) }
+read_back Remove = record { as_long = refl; bytes = (refl, (refl, (refl, tt))) }
+read_back Get = record { as_long = refl; bytes = (refl, (refl, (refl, tt))) }
+read_back Rank = record { as_long = refl; bytes = (refl, (refl, (refl, (refl, tt)))) }
+read_back Select = record { as_long = refl; bytes = (refl, (refl, (refl, tt))) }
+read_back Gap = record { as_long = refl; bytes = (refl, (refl, (refl, tt))) }
+read_back Dump = record { as_long = refl; bytes = (refl, (refl, (refl, (refl, tt)))) }
 
-pub row_length : length (all_spelled names) ≡ 31
-unfolding all_spelled spelled
-row_length = refl
+-- the name that is spelled so
+is_named : (n : Name) → named (spelled n) ≡ Some n
+unfolding named first_named spelled same
+is_named Pool = refl
+is_named Load = refl
+is_named Insert = refl
+is_named Remove = refl
+is_named Get = refl
+is_named Rank = refl
+is_named Select = refl
+is_named Gap = refl
+is_named Dump = refl
 
-pub stretch : (i : ℕ) → i < 9 → Stretch i (get_or starts i 0) (get_or starts (i + 1) 0)
-unfolding all_spelled spelled
-stretch zero h = record { start = refl; end = refl; first = omega arith; last = omega arith; word = refl }
-stretch (suc zero) h = record { start = refl; end = refl; first = omega arith; last = omega arith; word = refl }
-stretch (suc (suc zero)) h = record { start = refl; end = refl; first = omega arith; last = omega arith; word = refl }
-stretch (suc (suc (suc zero))) h = record { start = refl; end = refl; first = omega arith; last = omega arith; word = refl }
-stretch (suc (suc (suc (suc zero)))) h = record { start = refl; end = refl; first = omega arith; last = omega arith; word = refl }
-stretch (suc (suc (suc (suc (suc zero))))) h = record { start = refl; end = refl; first = omega arith; last = omega arith; word = refl }
-stretch (suc (suc (suc (suc (suc (suc zero)))))) h = record { start = refl; end = refl; first = omega arith; last = omega arith; word = refl }
-stretch (suc (suc (suc (suc (suc (suc (suc zero))))))) h = record { start = refl; end = refl; first = omega arith; last = omega arith; word = refl }
-stretch (suc (suc (suc (suc (suc (suc (suc (suc zero)))))))) h =
-    record { start = refl; end = refl; first = omega arith; last = omega arith; word = refl }
-stretch (suc (suc (suc (suc (suc (suc (suc (suc (suc i))))))))) h = absurd (omega arith)
+-- a text of a name's bytes is the name
+pub name_read : (n : Name) (bs : List ℕ) → length bs ≡ length (spelled n) → HasBytesAt bs 0 (spelled n) → Some n ≡ named bs
+name_read n bs l r = sym (rw (text_from_reads bs (spelled n) l r) (is_named n))
 
--- ---- the search
+-- and a text of no name's bytes is none
+not_named : (bs : List ℕ) → ((n : Name) → Read bs n → ⊥) → None ≡ named bs
+unfolding named first_named
+not_named bs h =
+    let other : (n : Name) → same bs (spelled n) ≡ false = λ n. not_same bs (spelled n) (λ e. h n (rw e (read_back n))) in
+    sym
+    (rw (named, first_named, other Pool, first_named, other Load, first_named, other Insert, first_named, other Remove, first_named, other Get)
+    (rw (first_named, other Rank, first_named, other Select, first_named, other Gap, first_named, other Dump, first_named)))
 
--- the name that a text spells is to be sought from the i-th on
-pub record From (i : ℕ) (bs : List ℕ) : Type 0 where
-  pub sought : named bs ≡ first_named bs (drop i names)
+-- ---- byte by byte, as the code tests them
 
-pub from_first : {bs : List ℕ} → From 0 bs
-unfolding named
-from_first = record { sought = refl }
+module _ (bs : List ℕ) where
+  -- the text is not of these three bytes
+  abbrev pub NotThree : ℕ → ℕ → ℕ → Type 0
+  NotThree a b c = length bs ≡ 3 → get_or bs 0 0 ≡ a → get_or bs 1 0 ≡ b → get_or bs 2 0 ≡ c → ⊥
 
-module _ {i : ℕ} {bs : List ℕ} {r : Bool} (a : From i bs) (h : i < 9) (compared : r ≡ same bs (spelled (get_or names i Other))) where
-  next : drop i names ≡ get_or names i Other ∷ drop (suc i) names
-  next = drop-cons names i Other h
+  -- nor of these four
+  abbrev pub NotFour : ℕ → ℕ → ℕ → ℕ → Type 0
+  NotFour a b c d = length bs ≡ 4 → get_or bs 0 0 ≡ a → get_or bs 1 0 ≡ b → get_or bs 2 0 ≡ c → get_or bs 3 0 ≡ d → ⊥
 
-  pub name_is : r ≡ true → get_or names i Other ≡ named bs
-  unfolding first_named
-  name_is e = sym (a.sought ∙ rw (next, first_named, ← compared, e))
-
-  pub name_not : r ≡ false → From (i + 1) bs
-  unfolding first_named
-  name_not e = record { sought = a.sought ∙ rw (next, first_named, ← compared, e, add-one i) }
-
-pub name_none : {i : ℕ} {bs : List ℕ} → From i bs → i ≡ 9 → Other ≡ named bs
-unfolding first_named
-name_none a e = sym (a.sought ∙ rw (e, first_named))
-
--- past the last there is none
-pub no_name : (i : ℕ)
-    → (i ≡ 0 → ⊥) → (i ≡ 1 → ⊥) → (i ≡ 2 → ⊥) → (i ≡ 3 → ⊥) → (i ≡ 4 → ⊥) → (i ≡ 5 → ⊥) → (i ≡ 6 → ⊥) → (i ≡ 7 → ⊥) → (i ≡ 8 → ⊥)
-    → Other ≡ get_or names i Other
-no_name zero a b c d e f g h j = absurd (a refl)
-no_name (suc zero) a b c d e f g h j = absurd (b refl)
-no_name (suc (suc zero)) a b c d e f g h j = absurd (c refl)
-no_name (suc (suc (suc zero))) a b c d e f g h j = absurd (d refl)
-no_name (suc (suc (suc (suc zero)))) a b c d e f g h j = absurd (e refl)
-no_name (suc (suc (suc (suc (suc zero))))) a b c d e f g h j = absurd (f refl)
-no_name (suc (suc (suc (suc (suc (suc zero)))))) a b c d e f g h j = absurd (g refl)
-no_name (suc (suc (suc (suc (suc (suc (suc zero))))))) a b c d e f g h j = absurd (h refl)
-no_name (suc (suc (suc (suc (suc (suc (suc (suc zero)))))))) a b c d e f g h j = absurd (j refl)
-no_name (suc (suc (suc (suc (suc (suc (suc (suc (suc i))))))))) a b c d e f g h j = refl
+  pub no_name_read : NotFour 112 111 111 108 → NotFour 108 111 97 100 → NotThree 105 110 115 → NotThree 114 101 109 → NotThree 103 101 116
+      → NotFour 114 97 110 107 → NotThree 115 101 108 → NotThree 103 97 112 → NotFour 100 117 109 112 → None ≡ named bs
+  unfolding spelled
+  no_name_read pool load ins rem get rank sel gap dump =
+      not_named bs (elim [
+        | Pool ↦ λ r. let b = r.bytes in pool r.as_long b.0 b.1.0 b.1.1.0 b.1.1.1.0
+        | Load ↦ λ r. let b = r.bytes in load r.as_long b.0 b.1.0 b.1.1.0 b.1.1.1.0
+        | Insert ↦ λ r. let b = r.bytes in ins r.as_long b.0 b.1.0 b.1.1.0
+        | Remove ↦ λ r. let b = r.bytes in rem r.as_long b.0 b.1.0 b.1.1.0
+        | Get ↦ λ r. let b = r.bytes in get r.as_long b.0 b.1.0 b.1.1.0
+        | Rank ↦ λ r. let b = r.bytes in rank r.as_long b.0 b.1.0 b.1.1.0 b.1.1.1.0
+        | Select ↦ λ r. let b = r.bytes in sel r.as_long b.0 b.1.0 b.1.1.0
+        | Gap ↦ λ r. let b = r.bytes in gap r.as_long b.0 b.1.0 b.1.1.0
+        | Dump ↦ λ r. let b = r.bytes in dump r.as_long b.0 b.1.0 b.1.1.0 b.1.1.1.0
+      ])

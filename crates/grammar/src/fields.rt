@@ -1,13 +1,14 @@
 // The name that a line begins with, and the fields after it.
-ghost use Rattle.std.specs.Prelude.{◌≡◌, ℕ, ◌*◌, ◌≤◌, ◌<◌, get_or, length};
-ghost use Rattle.std.proofs.Math.Option.{Option};
+ghost use Rattle.std.specs.Prelude.{◌≡◌, ℕ, ◌*◌, ◌<◌, length, Bool, Option};
+ghost use Rattle.order.specs.Asked.{Asked};
 ghost use Rattle.text.specs.Text.{fields as Text·fields};
-ghost use Rattle.grammar.specs.Lines.{all_spelled, given, hex_words, named, names, two_numbers, Wanted, WordsRead};
+ghost use Rattle.grammar.specs.Lines.{given, hex_words, marked, marked_at, named, order_with, two_numbers};
+ghost use Rattle.grammar.specs.Lines.{Wanted, WordsRead};
 
-use text::{Number, SPACE, decimal, field_end, find, hex_word, is_word};
+use text::{decimal, first_field, hex_word};
 
 // The name that a line begins with.
-#[derive(Clone, Copy)]
+#[derive(Clone, Copy, Debug, PartialEq, Eq, Hash)]
 pub enum Name {
     Pool,
     Load,
@@ -18,103 +19,79 @@ pub enum Name {
     Select,
     Gap,
     Dump,
-    Other,
-}
-
-// Two numbers.
-#[derive(Clone, Copy)]
-pub struct Two {
-    pub first: u64,
-    pub second: u64,
-}
-
-#[derive(Clone, Copy)]
-pub enum Pair {
-    Both(Two),
-    Nothing,
-}
-
-// Where each name begins in the row of all names, and where the last one ends.
-const STARTS: [usize; 10] = [0, 4, 8, 11, 14, 17, 21, 24, 27, 31];
-
-// The name of a number, as they stand in the row.
-fn name_at(i: usize) -> Name
-    ensures { result ≡ get_or names i Name.Other }
-{
-    match i {
-        0 => Name::Pool,
-        1 => Name::Load,
-        2 => Name::Insert,
-        3 => Name::Remove,
-        4 => Name::Get,
-        5 => Name::Rank,
-        6 => Name::Select,
-        7 => Name::Gap,
-        8 => Name::Dump,
-        _ => Name::Other,
-    }
-}
-
-// The first name of a row that a field is.
-fn name_in(field: &[u8], row: &[u8]) -> Name
-    requires { row.now ≡ all_spelled names }
-    ensures { result ≡ named field.now }
-{
-    let mut i = 0;
-    while i < 9 {
-        let from = STARTS[i];
-        let to = STARTS[i + 1];
-        if is_word(field, &row[from..to]) {
-            return name_at(i);
-        }
-        i += 1;
-    }
-    Name::Other
 }
 
 // The name that a field is.
-pub fn name_of(field: &[u8]) -> Name
+#[tactic(auto, using(crate::proofs::Names::no_name_read))]
+pub fn name_of(field: &[u8]) -> Option<Name>
     ensures { result ≡ named field.now }
 {
-    name_in(field, b"poolloadinsremgetrankselgapdump")
+    match field {
+        b"pool" => Some(Name::Pool),
+        b"load" => Some(Name::Load),
+        b"ins" => Some(Name::Insert),
+        b"rem" => Some(Name::Remove),
+        b"get" => Some(Name::Get),
+        b"rank" => Some(Name::Rank),
+        b"sel" => Some(Name::Select),
+        b"gap" => Some(Name::Gap),
+        b"dump" => Some(Name::Dump),
+        _ => None,
+    }
 }
 
 // Two decimals and nothing else.
-pub fn two_decimals(fields: &[u8]) -> Pair
+fn two_decimals(fields: &[u8]) -> Option<(u64, u64)>
     ensures { (ask : ℕ → ℕ → Option Wanted)
         → two_numbers (Text·fields fields.now) ask ≡ given result ask }
 {
-    let end = field_end(fields);
-    if end == fields.len() {
-        return Pair::Nothing;
-    }
-    let next = end + 1;
-    match decimal(&fields[..end]) {
-        Number::Nothing => Pair::Nothing,
-        Number::Value(first) => match decimal(&fields[next..]) {
-            Number::Nothing => Pair::Nothing,
-            Number::Value(second) => Pair::Both(Two { first, second }),
-        },
+    let (first, rest) = first_field(fields);
+    Some((decimal(first)?, decimal(rest?)?))
+}
+
+// A number that is to be a bit: as order's, of which a line wants no refusal.
+fn bit(number: u64) -> Option<bool>
+    ensures { (ask : Bool → Asked) → order_with number ask ≡ marked result ask }
+{
+    match number {
+        0 => Some(false),
+        1 => Some(true),
+        _ => None,
     }
 }
 
+// A place and then a bit.
+pub fn place_and_bit(fields: &[u8]) -> Option<(u64, bool)>
+    ensures { (ask : ℕ → Bool → Asked)
+        → two_numbers (Text·fields fields.now) (λ i b. order_with b (ask i)) ≡ marked_at result ask }
+{
+    let (place, number) = two_decimals(fields)?;
+    Some((place, bit(number)?))
+}
+
+// A bit and then a place or a count, which is told first.
+pub fn bit_and_place(fields: &[u8]) -> Option<(u64, bool)>
+    ensures { (ask : ℕ → Bool → Asked)
+        → two_numbers (Text·fields fields.now) (λ b i. order_with b (ask i)) ≡ marked_at result ask }
+{
+    let (number, place) = two_decimals(fields)?;
+    Some((place, bit(number)?))
+}
+
 // Hexadecimal words and nothing else, at least one; they are put in a row, and it is said how many they are.
-pub fn hex_words(fields: &[u8], words: &mut [u64]) -> Number
+pub fn hex_words(fields: &[u8], words: &mut [u64]) -> Option<usize>
     requires { length fields.now < 17 * length words.old }
     ensures { WordsRead (hex_words (Text·fields fields.now)) result words.new }
 {
-    let mut at = 0;
+    let mut rest = Some(fields);
+    // counted, as how many words were stored is the answer
     let mut count = 0;
-    loop {
-        let end = find(fields, at, fields.len(), SPACE);
-        let Number::Value(word) = hex_word(&fields[at..end]) else {
-            return Number::Nothing;
-        };
+    while let Some(fields) = rest {
+        let (field, more) = first_field(fields);
+        let word = hex_word(field)?;
         words[count] = word;
         count += 1;
-        if end == fields.len() {
-            return Number::Value(count as u64);
-        }
-        at = end + 1;
+        rest = more;
     }
+    Some(count)
 }

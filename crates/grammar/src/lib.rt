@@ -4,4 +4,4 @@
 mod fields;
 mod reading;
 
-pub use reading::{Line, Load, Order, read};
+pub use reading::{Line, Load, read};

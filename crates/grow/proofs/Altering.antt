@@ -5,7 +5,7 @@ use native.Mathlib.Omega.{arith}
 use mathlib.Core.Path.{◌≡◌, sym, ap, ◌∙◌}
 use mathlib.Core.Bool.{Bool, true, false}
 use mathlib.Core.List.{List, ◌∷◌, ◌++◌}
-use mathlib.Core.Option.{Option, some}
+use Rattle.std.specs.Prelude.{Option, Some}
 use lib.ListN.{length, take, drop, take-append-drop}
 use Rattle.model.specs.Edit.{insert, splits}
 use Rattle.model.specs.Marks as Marks
@@ -51,9 +51,9 @@ module _ (i : ℕ) (b : Bool) (free : List ℕ) (t : Tree) (h : i ≤ size t) (r
   after = record { tree = insert i b free t; free = rest (splits i t) free }
 
   -- two nodes may be taken where the leaf splits
-  inserted : Pool.insert (splits i t) i b before ≡ some after
+  inserted : Pool.insert (splits i t) i b before ≡ Some after
   inserted =
-      insert_outcomes (λ (o : Option Pool). o ≡ some after) (splits i t) i b before
+      insert_outcomes (λ (o : Option Pool). o ≡ Some after) (splits i t) i b before
       (λ e f. let z : ◌≡◌ {A = Bool} true false = sym e ∙ f in let n : ◌≡◌ {A = ℕ} 0 1 = cc in absurd (omega arith))
       (λ e _. rw e)
       (λ e. rw e)

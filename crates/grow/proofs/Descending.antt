@@ -184,7 +184,7 @@ module _ {w v : List ℕ} {n levels head total index : ℕ} {bit : Bool} {f : Fo
   in_child = omega (arith, d.child.up_to b.within, d.child.total_is)
 
   -- the mark can be put into it
-  pub to_child : ToInsert v s.child (levels - 1) head s.length s.index
+  pub to_child : ToInsert v s.child.node (levels - 1) head s.child.length s.index
   to_child =
       record {
         at = child_stands b.at d (top_put b.at d p.counts);

@@ -14,8 +14,8 @@ use Rattle.model.specs.Tree.{numbers}
 use Rattle.model.proofs.Cases.{by_test}
 use Rattle.model.proofs.Distincts.{distinct_second}
 use Rattle.pool.specs.Layout.{first_of}
-use Rattle.pool.specs.declared.chain.Chain.{Chain}
 use Rattle.descent.specs.SiteAt.{SiteAt}
+use Rattle.tree.specs.declared.root.Held.{Held}
 use Rattle.grow.specs.Inserting.{Inserted, InsertedInto, ToInsertInto, rest}
 
 -- a split moves the head
@@ -27,13 +27,13 @@ moves end (a ∷ []) two once past e = omega arith
 moves end (a ∷ b ∷ []) two once past e = past (Memᴰ.head e)
 moves end (a ∷ b ∷ c ∷ cs) two once past e = once.0 (Memᴰ.tail (Memᴰ.head (sym e)))
 
-module _ {w w' : List ℕ} {root head total index : ℕ} {chain : Chain} {by : ℤ} (bit : Bool)
-    (q : ToInsertInto w root chain total index) (a : Inserted q.place w' head by bit) where
-  abbrev at : SiteAt w root levels chain.first total
+module _ {w w' : List ℕ} {h : Held} {head index : ℕ} {by : ℤ} (bit : Bool)
+    (q : ToInsertInto w h index) (a : Inserted q.place w' head by bit) where
+  abbrev at : SiteAt w h.tree.node levels h.chain.first h.tree.length
   at = q.place.at
 
   -- the head is where it was: no leaf was split
-  pub chain_stays : head ≡ chain.first → InsertedInto q w' chain bit
+  pub chain_stays : head ≡ h.chain.first → InsertedInto q w' h.chain bit
   chain_stays e =
       by_test (splits index at.tree)
       (λ split.
@@ -42,17 +42,17 @@ module _ {w w' : List ℕ} {root head total index : ℕ} {chain : Chain} {by : �
       (rw split at a.first ∙ e ∙ sym at.site.first)))
       (λ whole. record { edited = a.edited; chained = a.chained; first = a.first ∙ e; count_is = rw whole q.count_is })
 
-  module _ (moved : head ≡ chain.first → ⊥) where
+  module _ (moved : head ≡ h.chain.first → ⊥) where
     was_split : splits index at.tree ≡ true
     was_split =
         by_test (splits index at.tree) (λ split. split)
         (λ whole. absurd (moved (sym (rw whole at a.first) ∙ at.site.first)))
 
     -- two nodes were free
-    pub chain_two : 2 ≤ chain.count
+    pub chain_two : 2 ≤ h.chain.count
     chain_two = let two = q.place.room was_split in omega (arith, q.count_is)
 
-    pub chain_moves : (count : ℕ) → count + 2 ≡ chain.count → InsertedInto q w' (record { first = head; count = count }) bit
+    pub chain_moves : (count : ℕ) → count + 2 ≡ h.chain.count → InsertedInto q w' (record { first = head; count = count }) bit
     chain_moves count fewer =
         record {
           edited = a.edited;

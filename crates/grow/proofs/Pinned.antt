@@ -17,15 +17,15 @@ use Rattle.grow.proofs.inserting.room.Reads as room
 use Rattle.grow.proofs.inserting.room.Kinds as room_kinds
 
 pub room_pinned : (κs : _) (a : Dens {n = 1} κs room_kinds.ps) (r r' : _) (w w' : _)
-    → ToAsk a.0.now a.1.0 a.1.1.0 a.1.1.1.1.0 → room.Post κs a r w → room.Post κs a r' w' → r ≡ r'
+    → ToAsk a.0.now a.1.0 a.1.1.1.0 → room.Post κs a r w → room.Post κs a r' w' → r ≡ r'
 room_pinned κs a r r' w w' b one other = one b ∙ sym (other b)
 
 pub insert_pinned : (κs : _) (a : Dens {n = 1} κs insert_kinds.ps) (r r' : _) (w w' : _) (n : ℕ) → Unbroken n a.0.now
-    → ToInsertInto a.0.now a.1.0 a.1.1.1.0 a.1.1.0 a.1.1.1.1.0 → insert.Post κs a r w → insert.Post κs a r' w'
+    → ToInsertInto a.0.now a.1.0 a.1.1.0 → insert.Post κs a r w → insert.Post κs a r' w'
     → (r ≡ r') × (w.0.now ≡ w'.0.now)
 insert_pinned κs a r r' w w' n whole b one other =
-    let index : ℕ = a.1.1.1.1.0 in
-    let bit : Bool = a.1.1.1.1.1.0 in
+    let index : ℕ = a.1.1.0 in
+    let bit : Bool = a.1.1.1.0 in
     let i = one b in
     let o = other b in
     let place = b.place in

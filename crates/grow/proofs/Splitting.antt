@@ -15,7 +15,6 @@ use Rattle.model.specs.Sound.{Distinct}
 use Rattle.model.specs.Tree.{Tree, top, marks, size, height, numbers}
 use Rattle.model.proofs.Cases.{settle_cases}
 use Rattle.bits.specs.Leaf.{bits_of, leaf_of, halves_of}
-use Rattle.bits.specs.declared.leaf.Halves.{Halves}
 use Rattle.bits.specs.declared.leaf.Leaf.{Leaf}
 use Rattle.bits.proofs.Held.{split_held, rank_held}
 use Rattle.pool.specs.Layout.{Chained, first_of, fork_of}
@@ -136,10 +135,10 @@ module _ {w : List ℕ} {n head : ℕ} {leaf : Leaf} (t : ToSettle w n head leaf
       (_, ap (node_at w) (e ∙ ap (next_in (nodes_in w)) split_two.first_free) ∙ split_two.second_free)
 
   -- what the steps of the split leave
-  pub split_done : {w₁ w₂ w₃ : List ℕ} {b head' : ℕ} {h : Halves} {f : Fork}
+  pub split_done : {w₁ w₂ w₃ : List ℕ} {b head' : ℕ} {h : Leaf × Leaf} {f : Fork}
       → b ≡ next_in (nodes_in w) (node_at w head) → head' ≡ next_in (nodes_in w) (node_at w b) → h ≡ halves_of (bits_of leaf)
-      → w₁ ≡ put w head (leaf_cell h.left) → w₂ ≡ put w₁ b (leaf_cell h.right) → f.left ≡ head → f.right ≡ b
-      → f.left_total ≡ 64 → f.left_ones ≡ rank true 64 (bits_of h.left) → Apart (pos 0) f.balance 2
+      → w₁ ≡ put w head (leaf_cell h.0) → w₂ ≡ put w₁ b (leaf_cell h.1) → f.left ≡ head → f.right ≡ b
+      → f.left_total ≡ 64 → f.left_ones ≡ rank true 64 (bits_of h.0) → Apart (pos 0) f.balance 2
       → w₃ ≡ put w₂ n (fork_cell f) → Settled t w₃ head' (pos 1)
   unfolding halves_of
   split_done {w₁} {w₂} {w₃} {b} {head'} {h} {f} e₁ e₂ he p q fl fr ft fo fb o =
@@ -152,8 +151,8 @@ module _ {w : List ℕ} {n head : ℕ} {leaf : Leaf} (t : ToSettle w n head leaf
       let past : head' ≡ first_of t.end cs =
       e₂ ∙ ap (λ (i : ℕ). next_in (nodes_in w) (node_at w i)) next ∙ ap (next_in (nodes_in w)) k.second_free in
       let halves : h ≡ halves_of xs = he ∙ ap (λ (x : Leaf). halves_of (bits_of x)) t.held ∙ split_held xs t.total_is in
-      let left : h.left ≡ leaf_of (take 64 xs) = ap (λ (x : Halves). x.left) halves in
-      let right : h.right ≡ leaf_of (drop 64 xs) = ap (λ (x : Halves). x.right) halves in
+      let left : h.0 ≡ leaf_of (take 64 xs) = ap (λ (x : Leaf × Leaf). x.0) halves in
+      let right : h.1 ≡ leaf_of (drop 64 xs) = ap (λ (x : Leaf × Leaf). x.1) halves in
       let ones = fo ∙ ap (λ (x : Leaf). rank true 64 (bits_of x)) left ∙ half_strikes xs t.total_is in
       let over : f ≡ fork_of (Tree.leaf head (take 64 xs)) (Tree.leaf k.second (drop 64 xs)) =
       half_fork xs head k.second f t.total_is fl (fr ∙ next) ft ones (omega (arith, both (pos 0) fb (none 2))) in

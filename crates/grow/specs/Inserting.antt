@@ -12,6 +12,8 @@ use Rattle.bits.specs.declared.leaf.Leaf.{Leaf}
 use Rattle.pool.specs.Layout.{Chained, Edited, Rooted, first_of}
 use Rattle.pool.specs.Node.{nodes_in}
 use Rattle.pool.specs.declared.chain.Chain.{Chain}
+use Rattle.tree.specs.declared.root.Held.{Held}
+use Rattle.tree.specs.declared.root.Root.{Root}
 use Rattle.turn.specs.Sites.{After}
 use Rattle.descent.specs.SiteAt.{SiteAt}
 
@@ -23,11 +25,11 @@ rest false free = free
 -- ---- is there room?
 
 -- a pool's tree of so many marks, and a place of the tree
-pub record ToAsk (w : List ℕ) (root total index : ℕ) : Type 0 where
+pub record ToAsk (w : List ℕ) (root : Root) (index : ℕ) : Type 0 where
   pub pool : Pool
-  pub rooted : Rooted w root levels pool.tree
-  pub total_is : size pool.tree ≡ total
-  pub within : index ≤ total
+  pub rooted : Rooted w root.node levels pool.tree
+  pub total_is : size pool.tree ≡ root.length
+  pub within : index ≤ root.length
 
 -- ---- a leaf
 
@@ -74,14 +76,14 @@ module _ {w : List ℕ} {n levels head total index : ℕ} (b : ToInsert w n leve
   Inserted w' head' by bit = After w w' b.at.end head' by b.at.tree (with_bit bit) b.at.free left_over
 
 -- the same of a pool's tree and chain; the chain's end is no free number
-pub record ToInsertInto (w : List ℕ) (root : ℕ) (chain : Chain) (total index : ℕ) : Type 0 where
-  pub place : ToInsert w root levels chain.first total index
-  pub count_is : length place.at.free ≡ chain.count
+pub record ToInsertInto (w : List ℕ) (h : Held) (index : ℕ) : Type 0 where
+  pub place : ToInsert w h.tree.node levels h.chain.first h.tree.length index
+  pub count_is : length place.at.free ≡ h.chain.count
   pub past : Memᴰ place.at.end place.at.free → ⊥
 
 -- the tree with the mark stands where the tree stood, and the chain is what is left of it
-pub record InsertedInto {w : List ℕ} {root : ℕ} {chain : Chain} {total index : ℕ}
-    (b : ToInsertInto w root chain total index) (w' : List ℕ) (after : Chain) (bit : Bool) : Type 0 where
+pub record InsertedInto {w : List ℕ} {h : Held} {index : ℕ}
+    (b : ToInsertInto w h index) (w' : List ℕ) (after : Chain) (bit : Bool) : Type 0 where
   pub edited : Edited w w' (numbers b.place.at.tree ++ b.place.at.free) (with_bit b.place bit)
   pub chained : Chained w' b.place.at.end (left_over b.place)
   pub first : first_of b.place.at.end (left_over b.place) ≡ after.first

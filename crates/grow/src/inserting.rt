@@ -6,10 +6,9 @@ ghost use Rattle.grow.specs.Inserting.{Inserted, InsertedInto, Settled, ToAsk, T
 
 use bits::Leaf;
 use pool::{
-    Chain, Fork, LEVELS, SPLIT_NODES, TreeNode, leaf_or_fork, next_free, set_fork, set_leaf,
-    set_left,
+    Chain, Fork, LEVELS, SPLIT_NODES, TreeNode, leaf_or_fork, next_free, set_left, set_node,
 };
-use tree::{leaf_size, toward};
+use tree::{Held, Root};
 use turn::{child_changed, stored};
 
 // A leaf that reaches this many marks splits in two halves.
@@ -19,17 +18,15 @@ const LEAF_HALF: u64 = 64;
 
 // Whether an insert at a place has room: two nodes may be taken, or its leaf does not split. Only where they may not
 // the leaf is looked for.
-pub fn room(nodes: &[u64], root: u64, length: u64, may: bool, index: u64) -> bool
-    requires { ToAsk nodes.now root length index }
-    ensures { (b : ToAsk nodes.now root length index) → result ≡ not (full may index b.pool) }
+pub fn room(nodes: &[u64], root: Root, may: bool, index: u64) -> bool
+    requires { ToAsk nodes.now root index }
+    ensures { (b : ToAsk nodes.now root index) → result ≡ not (full may index b.pool) }
 {
-    if may {
-        return true;
-    }
-    leaf_size(nodes, root, length, index) + 1 < LEAF_SPLIT
+    may || root.leaf_size(nodes, index) + 1 < LEAF_SPLIT
 }
 
-// Puts the halves of a full leaf at the first two free numbers, and the fork over them at n.
+// Puts the halves of a full leaf at the first two free numbers, and the fork over them at n. The free chain's head goes
+// beside the words, here and in shrink, and not in a struct with them: what else is called takes the words alone.
 fn split(nodes: &mut [u64], head: &mut u64, n: u64, leaf: Leaf)
     requires { ToSettle nodes.old n head.old leaf 128 }
     ensures { (b : ToSettle nodes.old n head.old leaf 128)
@@ -38,12 +35,10 @@ fn split(nodes: &mut [u64], head: &mut u64, n: u64, leaf: Leaf)
     let first = *head;
     let second = next_free(nodes, first);
     *head = next_free(nodes, second);
-    let halves = leaf.split();
-    let left = halves.left;
-    let right = halves.right;
-    set_leaf(nodes, first, left);
-    set_leaf(nodes, second, right);
-    set_fork(
+    let (left, right) = leaf.split();
+    set_node(nodes, first, left);
+    set_node(nodes, second, right);
+    set_node(
         nodes,
         n,
         Fork {
@@ -63,73 +58,62 @@ fn settle(nodes: &mut [u64], head: &mut u64, n: u64, leaf: Leaf, size: u64) -> i
         → Settled b nodes.new head.new result }
 {
     if size < LEAF_SPLIT {
-        set_leaf(nodes, n, leaf);
+        set_node(nodes, n, leaf);
         return 0;
     }
     split(nodes, head, n, leaf);
     1
 }
 
-// Puts a mark into the tree at n, which holds `length`, and says by how much the tree has grown in height. `head` is
-// the first free number.
+// Puts a mark into a tree, and says by how much the tree has grown in height. `head` is the first free number.
 fn insert_below(
     nodes: &mut [u64],
     head: &mut u64,
-    n: u64,
-    length: u64,
+    root: Root,
     index: u64,
     bit: bool,
     levels: u64,
 ) -> i64
-    requires { ToInsert nodes.old n levels head.old length index }
-    ensures { (b : ToInsert nodes.old n levels head.old length index)
+    requires { ToInsert nodes.old root.node levels head.old root.length index }
+    ensures { (b : ToInsert nodes.old root.node levels head.old root.length index)
         → Inserted b nodes.new head.new result bit }
 {
-    match leaf_or_fork(nodes, n) {
-        TreeNode::Leaf(leaf) => settle(nodes, head, n, leaf.insert(index, bit), length + 1),
+    match leaf_or_fork(nodes, root.node) {
+        TreeNode::Leaf(leaf) => settle(
+            nodes,
+            head,
+            root.node,
+            leaf.insert(index, bit),
+            root.length + 1,
+        ),
         TreeNode::Fork(fork) => {
-            let step = toward(fork, length, index);
+            let step = root.toward(fork, index);
             let total = fork.left_total + step.left as u64;
             let ones = fork.left_ones + (step.left & bit) as u64;
-            set_left(nodes, n, total, ones);
-            let change = insert_below(
-                nodes,
-                head,
-                step.child,
-                step.length,
-                step.index,
-                bit,
-                levels - 1,
-            );
+            set_left(nodes, root.node, total, ones);
+            let change = insert_below(nodes, head, step.child, step.index, bit, levels - 1);
             if change == 0 {
                 return 0;
             }
-            child_changed(nodes, n, step.left, change)
+            child_changed(nodes, root.node, step.left, change)
         }
     }
 }
 
 // Puts a mark in at a place that has room, and hands the free chain back: its head has moved exactly where a leaf was
 // split.
-pub fn insert(
-    nodes: &mut [u64],
-    root: u64,
-    length: u64,
-    chain: Chain,
-    index: u64,
-    bit: bool,
-) -> Chain
-    requires { ToInsertInto nodes.old root chain length index }
-    ensures { (b : ToInsertInto nodes.old root chain length index)
+pub fn insert(nodes: &mut [u64], held: Held, index: u64, bit: bool) -> Chain
+    requires { ToInsertInto nodes.old held index }
+    ensures { (b : ToInsertInto nodes.old held index)
         → InsertedInto b nodes.new result bit }
 {
-    let mut head = chain.first;
-    insert_below(nodes, &mut head, root, length, index, bit, LEVELS);
-    if head == chain.first {
-        return chain;
+    let mut head = held.chain.first;
+    insert_below(nodes, &mut head, held.tree, index, bit, LEVELS);
+    if head == held.chain.first {
+        return held.chain;
     }
     Chain {
         first: head,
-        count: chain.count - SPLIT_NODES,
+        count: held.chain.count - SPLIT_NODES,
     }
 }

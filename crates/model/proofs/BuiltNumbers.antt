@@ -6,7 +6,7 @@ use native.Mathlib.Nat.{zero-add}
 use mathlib.Core.Path.{◌≡◌}
 use mathlib.Core.Bool.{Bool}
 use mathlib.Core.List.{List, [], ◌∷◌, reverse, reverse_aux}
-use mathlib.Core.Option.{Option, some}
+use Rattle.std.specs.Prelude.{Option, Some}
 use lib.ListN.{length, take, drop, length-reverse}
 use Rattle.model.specs.Tree.{Tree, leaf, numbers}
 use Rattle.model.specs.Build.{leaf_built, leaf_count, built_leaves, round}
@@ -74,10 +74,10 @@ build_numbers xs w =
     rw (nodes_for, m, numbers_weight) (omega (arith, end.1.below w))
 
 -- a built pool of so many nodes has the numbers below that, each once
-pub pool_numbers : (n : ℕ) (xs : List Bool) (p : Pool) → build n xs ≡ some p → Rearranged (numbers_from zero n) (all_numbers p)
+pub pool_numbers : (n : ℕ) (xs : List Bool) (p : Pool) → build n xs ≡ Some p → Rearranged (numbers_from zero n) (all_numbers p)
 pool_numbers n xs p =
     let need : ℕ = nodes_for (leaf_count (length xs)) in
-    build_outcomes (λ (o : Option Pool). o ≡ some p → Rearranged (numbers_from zero n) (all_numbers p)) n xs
+    build_outcomes (λ (o : Option Pool). o ≡ Some p → Rearranged (numbers_from zero n) (all_numbers p)) n xs
     (λ _ e. let z : ◌≡◌ {A = ℕ} 0 1 = cc in absurd (omega arith))
     (λ room e w.
     let z : p ≡ record { tree = Build.build xs; free = numbers_from need (n - need) } = cc in
@@ -86,5 +86,5 @@ pool_numbers n xs p =
     rw (z, all_weight) (omega (arith, build_numbers xs w, numbers_weight w (Build.build xs), all)))
 
 -- so no number of a built pool stands twice
-pub pool_distinct : (n : ℕ) (xs : List Bool) (p : Pool) → build n xs ≡ some p → Distinct (all_numbers p)
+pub pool_distinct : (n : ℕ) (xs : List Bool) (p : Pool) → build n xs ≡ Some p → Distinct (all_numbers p)
 pool_distinct n xs p e = rearranged_distinct (numbers_from zero n) (all_numbers p) (pool_numbers n xs p e) (numbers_from_distinct zero n)

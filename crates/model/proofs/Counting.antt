@@ -7,7 +7,7 @@ use native.Mathlib.Omega.{arith}
 use mathlib.Core.Path.{◌≡◌, refl, sym, ap, ◌∙◌}
 use mathlib.Core.Bool.{Bool, true, false, not}
 use mathlib.Core.List.{List, [], ◌∷◌, ◌++◌, append-nil}
-use mathlib.Core.Option.{Option, none, some}
+use Rattle.std.specs.Prelude.{Option, None, Some}
 use lib.ListN.{length, length-map}
 use Rattle.model.specs.Marks.{ones, further, place, wanted, count, select}
 
@@ -27,13 +27,13 @@ ones_le (false ∷ xs) = let h = ones_le xs in omega arith
 
 pub further_zero : (o : Option ℕ) → further 0 o ≡ o
 unfolding further
-further_zero none = refl
-further_zero (some p) = ap some (zero-add p)
+further_zero None = refl
+further_zero (Some p) = ap Some (zero-add p)
 
 pub further_further : (m n : ℕ) (o : Option ℕ) → further m (further n o) ≡ further (m + n) o
 unfolding further
-further_further m n none = refl
-further_further m n (some p) = ap some (sym (add_assoc m n p))
+further_further m n None = refl
+further_further m n (Some p) = ap Some (sym (add_assoc m n p))
 
 -- the k-th set bit stands in the first part, where that has k of them
 pub place_in_first : (k : ℕ) (xs ys : List Bool) → k ≤ ones xs → place k (xs ++ ys) ≡ place k xs
@@ -58,26 +58,26 @@ place_in_second (suc k) (false ∷ xs) ys h =
     ap (further 1) (place_in_second (suc k) xs ys h) ∙ further_further 1 (length xs) (place (suc k - ones xs) ys)
     ∙ simp one-add
 
-never : {A : Type 0} {p : ℕ} → none ≡ some p → A
+never : {A : Type 0} {p : ℕ} → None ≡ Some p → A
 never e = let z : ◌≡◌ {A = ℕ} 0 1 = cc in absurd (omega arith)
 
 -- one place further on in a list that is one longer
-step : {n : ℕ} (o : Option ℕ) → ((q : ℕ) → o ≡ some q → q < n) → (p : ℕ) → further 1 o ≡ some p → p < suc n
+step : {n : ℕ} (o : Option ℕ) → ((q : ℕ) → o ≡ Some q → q < n) → (p : ℕ) → further 1 o ≡ Some p → p < suc n
 unfolding further
-step none f p e = never e
-step (some q) f p e = let z : 1 + q ≡ p = cc in omega (arith, f q refl)
+step None f p e = never e
+step (Some q) f p e = let z : 1 + q ≡ p = cc in omega (arith, f q refl)
 
 -- there is no k-th set bit where there are fewer
-pub place_none : (k : ℕ) (xs : List Bool) → ones xs < k → place k xs ≡ none
+pub place_none : (k : ℕ) (xs : List Bool) → ones xs < k → place k xs ≡ None
 unfolding place further
 place_none k xs h = rw (← append-nil xs) (place_in_second k xs [] h ∙ ap (further (length xs)) (nowhere (k - ones xs)))
   where
-    nowhere : (j : ℕ) → place j [] ≡ none
+    nowhere : (j : ℕ) → place j [] ≡ None
     nowhere zero = refl
     nowhere (suc j) = refl
 
 -- there is one where there are as many
-pub place_some : (k : ℕ) (xs : List Bool) → 1 ≤ k → k ≤ ones xs → (p : ℕ) × (place k xs ≡ some p)
+pub place_some : (k : ℕ) (xs : List Bool) → 1 ≤ k → k ≤ ones xs → (p : ℕ) × (place k xs ≡ Some p)
 unfolding place further ones
 place_some zero xs h l = absurd (omega arith)
 place_some (suc k) [] h l = absurd (omega arith)
@@ -86,7 +86,7 @@ place_some (suc (suc k)) (true ∷ xs) h l = let q = place_some (suc k) xs (omeg
 place_some (suc k) (false ∷ xs) h l = let q = place_some (suc k) xs h l in (1 + q.0, ap (further 1) q.1)
 
 -- a place that is found lies in the list
-pub place_below : (k : ℕ) (xs : List Bool) (p : ℕ) → place k xs ≡ some p → p < length xs
+pub place_below : (k : ℕ) (xs : List Bool) (p : ℕ) → place k xs ≡ Some p → p < length xs
 unfolding place further
 place_below zero xs p e = never e
 place_below (suc k) [] p e = never e
@@ -94,7 +94,7 @@ place_below (suc zero) (true ∷ xs) p e = let z : 0 ≡ p = cc in omega arith
 place_below (suc (suc k)) (true ∷ xs) p e = step (place (suc k) xs) (place_below (suc k) xs) p e
 place_below (suc k) (false ∷ xs) p e = step (place (suc k) xs) (place_below (suc k) xs) p e
 
-pub place_zero : (xs : List Bool) → place zero xs ≡ none
+pub place_zero : (xs : List Bool) → place zero xs ≡ None
 unfolding place
 place_zero xs = refl
 
@@ -134,18 +134,18 @@ select_in_second b k xs ys h =
     rw (wanted_append, ← wanted_length b xs) (place_in_second k (wanted b xs) (wanted b ys) h)
 
 -- there is no k-th mark that is b where there are fewer, and none for k = 0
-pub select_none : (b : Bool) (k : ℕ) (xs : List Bool) → count b xs < k → select b k xs ≡ none
+pub select_none : (b : Bool) (k : ℕ) (xs : List Bool) → count b xs < k → select b k xs ≡ None
 unfolding count select
 select_none b k xs h = place_none k (wanted b xs) h
 
-pub select_zero : (b : Bool) (xs : List Bool) → select b zero xs ≡ none
+pub select_zero : (b : Bool) (xs : List Bool) → select b zero xs ≡ None
 unfolding select
 select_zero b xs = place_zero (wanted b xs)
 
-pub select_some : (b : Bool) (k : ℕ) (xs : List Bool) → 1 ≤ k → k ≤ count b xs → (p : ℕ) × (select b k xs ≡ some p)
+pub select_some : (b : Bool) (k : ℕ) (xs : List Bool) → 1 ≤ k → k ≤ count b xs → (p : ℕ) × (select b k xs ≡ Some p)
 unfolding count select
 select_some b k xs h l = place_some k (wanted b xs) h l
 
-pub select_below : (b : Bool) (k : ℕ) (xs : List Bool) (p : ℕ) → select b k xs ≡ some p → p < length xs
+pub select_below : (b : Bool) (k : ℕ) (xs : List Bool) (p : ℕ) → select b k xs ≡ Some p → p < length xs
 unfolding select
 select_below b k xs p e = rw (← wanted_length b xs) (place_below k (wanted b xs) p e)

@@ -5,7 +5,7 @@ use native.Mathlib.Omega.{arith}
 use mathlib.Core.Path.{◌≡◌}
 use mathlib.Core.Bool.{Bool, true, false}
 use mathlib.Core.List.{List}
-use mathlib.Core.Option.{Option, none, some}
+use Rattle.std.specs.Prelude.{Option, None, Some}
 use lib.ListN.{length, drop}
 use borrow.Author.Tests.{leb-true, leb-false}
 use Rattle.model.specs.Build as Build
@@ -16,8 +16,8 @@ use Rattle.model.proofs.Cases.{by_test, by_leb}
 
 -- a build is refused where the tree needs more nodes than there are
 pub build_outcomes : (P : Option Pool → Type 0) (n : ℕ) (xs : List Bool) → let need = nodes_for (Build.leaf_count (length xs)) in
-    (n < need → P none)
-    → (need ≤ n → P (some (record { tree = Build.build xs; free = numbers_from need (n - need) })))
+    (n < need → P None)
+    → (need ≤ n → P (Some (record { tree = Build.build xs; free = numbers_from need (n - need) })))
     → P (build n xs)
 unfolding build
 build_outcomes P n xs refused room =
@@ -25,9 +25,9 @@ build_outcomes P n xs refused room =
 
 -- an insert is refused where its leaf splits and two numbers may not be taken; else it takes two where its leaf splits, and else none
 pub insert_outcomes : (P : Option Pool → Type 0) (may : Bool) (i : ℕ) (b : Bool) (p : Pool)
-    → (splits i p.tree ≡ true → may ≡ false → P none)
-    → (splits i p.tree ≡ true → may ≡ true → P (some (record { tree = Edit.insert i b p.free p.tree; free = drop 2 p.free })))
-    → (splits i p.tree ≡ false → P (some (record { tree = Edit.insert i b p.free p.tree; free = p.free })))
+    → (splits i p.tree ≡ true → may ≡ false → P None)
+    → (splits i p.tree ≡ true → may ≡ true → P (Some (record { tree = Edit.insert i b p.free p.tree; free = drop 2 p.free })))
+    → (splits i p.tree ≡ false → P (Some (record { tree = Edit.insert i b p.free p.tree; free = p.free })))
     → P (insert may i b p)
 unfolding insert full
 insert_outcomes P may i b p refused split room =

@@ -5,7 +5,7 @@ use native.Mathlib.Omega.{arith}
 use mathlib.Core.Path.{◌≡◌}
 use mathlib.Core.Bool.{Bool, true}
 use mathlib.Core.List.{List, [], ◌∷◌}
-use mathlib.Core.Option.{Option, some}
+use Rattle.std.specs.Prelude.{Option, Some}
 use lib.ListN.{length, drop}
 unfoldable pub use Rattle.model.specs.Sound.{all_numbers}
 use Rattle.model.specs.Tree.{size}
@@ -30,11 +30,11 @@ first_two w (a ∷ b ∷ ns) h = omega arith
 
 -- an insert that is not refused rearranges the numbers
 pub insert_rearranged : (may : Bool) (i : ℕ) (b : Bool) (p q : Pool) → i ≤ size p.tree → (may ≡ true → 2 ≤ length p.free)
-    → insert may i b p ≡ some q
+    → insert may i b p ≡ Some q
     → Rearranged (all_numbers p) (all_numbers q)
 unfolding taken
 insert_rearranged may i b p q h two =
-    insert_outcomes (λ (o : Option Pool). o ≡ some q → Rearranged (all_numbers p) (all_numbers q)) may i b p
+    insert_outcomes (λ (o : Option Pool). o ≡ Some q → Rearranged (all_numbers p) (all_numbers q)) may i b p
     (λ _ _ e. let z : ◌≡◌ {A = ℕ} 0 1 = cc in absurd (omega arith))
     (λ split taken_two e w.
     let z : q ≡ record { tree = Edit.insert i b p.free p.tree; free = drop 2 p.free } = cc in
@@ -50,7 +50,7 @@ remove_rearranged i p h whole w = simp (all_weight, remove, weigh_append) (omega
 
 -- so no number comes to stand twice
 pub insert_distinct : (may : Bool) (i : ℕ) (b : Bool) (p q : Pool) → i ≤ size p.tree → (may ≡ true → 2 ≤ length p.free)
-    → insert may i b p ≡ some q
+    → insert may i b p ≡ Some q
     → Distinct (all_numbers p) → Distinct (all_numbers q)
 insert_distinct may i b p q h two e = rearranged_distinct (all_numbers p) (all_numbers q) (insert_rearranged may i b p q h two e)
 

@@ -4,7 +4,7 @@ use Prim.Native.Nat.{ℕ, ◌≤◌, ◌<◌}
 use mathlib.Core.Path.{◌≡◌, sym, ◌∙◌}
 use mathlib.Core.Bool.{Bool, true}
 use mathlib.Core.List.{List}
-use mathlib.Core.Option.{Option, some}
+use Rattle.std.specs.Prelude.{Option, Some}
 use lib.ListN.{length, drop}
 use native.Mathlib.Omega.{arith}
 use Rattle.model.specs.Build as Build
@@ -26,13 +26,13 @@ use Rattle.model.proofs.PoolNumbers.{insert_rearranged, remove_rearranged}
 
 -- ---- build
 
-pub build_tree : (n : ℕ) (xs : List Bool) (p : Pool) → build n xs ≡ some p → p.tree ≡ Build.build xs
+pub build_tree : (n : ℕ) (xs : List Bool) (p : Pool) → build n xs ≡ Some p → p.tree ≡ Build.build xs
 build_tree n xs p =
-    build_outcomes (λ (o : Option Pool). o ≡ some p → p.tree ≡ Build.build xs) n xs
+    build_outcomes (λ (o : Option Pool). o ≡ Some p → p.tree ≡ Build.build xs) n xs
     (λ _ e. let z : ◌≡◌ {A = ℕ} 0 1 = cc in absurd (omega arith))
     (λ _ e. cc)
 
-pub build_sound : (n : ℕ) (xs : List Bool) (p : Pool) → build n xs ≡ some p → Sound n p
+pub build_sound : (n : ℕ) (xs : List Bool) (p : Pool) → build n xs ≡ Some p → Sound n p
 build_sound n xs p e =
     let same = build_tree n xs p e in
     record {
@@ -44,15 +44,15 @@ build_sound n xs p e =
 -- ---- insert and remove
 
 -- the tree after an insert that has room
-pub insert_tree : (may : Bool) (i : ℕ) (b : Bool) (p q : Pool) → insert may i b p ≡ some q → q.tree ≡ Edit.insert i b p.free p.tree
+pub insert_tree : (may : Bool) (i : ℕ) (b : Bool) (p q : Pool) → insert may i b p ≡ Some q → q.tree ≡ Edit.insert i b p.free p.tree
 insert_tree may i b p q =
-    insert_outcomes (λ (o : Option Pool). o ≡ some q → q.tree ≡ Edit.insert i b p.free p.tree) may i b p
+    insert_outcomes (λ (o : Option Pool). o ≡ Some q → q.tree ≡ Edit.insert i b p.free p.tree) may i b p
     (λ _ _ e. let z : ◌≡◌ {A = ℕ} 0 1 = cc in absurd (omega arith))
     (λ _ _ e. let z : q ≡ record { tree = Edit.insert i b p.free p.tree; free = drop 2 p.free } = cc in rw z)
     (λ _ e. let z : q ≡ record { tree = Edit.insert i b p.free p.tree; free = p.free } = cc in rw z)
 
 pub insert_sound : (n : ℕ) (may : Bool) (i : ℕ) (b : Bool) (p q : Pool) → i ≤ size p.tree → (may ≡ true → 2 ≤ length p.free)
-    → insert may i b p ≡ some q
+    → insert may i b p ≡ Some q
     → Sound n p → Sound n q
 insert_sound n may i b p q h two e s =
     record {
@@ -71,7 +71,7 @@ remove_sound n i p h s =
     }
 
 -- and their marks are the list's
-pub insert_pool_marks : (may : Bool) (i : ℕ) (b : Bool) (p q : Pool) → i ≤ size p.tree → insert may i b p ≡ some q
+pub insert_pool_marks : (may : Bool) (i : ℕ) (b : Bool) (p q : Pool) → i ≤ size p.tree → insert may i b p ≡ Some q
     → marks q.tree ≡ Marks.insert i b (marks p.tree)
 insert_pool_marks may i b p q h e = rw (insert_tree may i b p q e) (insert_marks i b p.free p.tree h)
 

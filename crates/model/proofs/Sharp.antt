@@ -6,7 +6,7 @@ use native.Mathlib.Omega.{arith}
 use mathlib.Core.Path.{◌≡◌, refl, ap, ◌∙◌}
 use mathlib.Core.Bool.{Bool, false}
 use mathlib.Core.List.{List, [], ◌++◌, map}
-use mathlib.Core.Option.{Option, some}
+use Rattle.std.specs.Prelude.{Option, Some}
 use lib.ListN.{length, replicate, length-replicate}
 use Rattle.model.specs.Build as Build
 use Rattle.model.specs.Build.{leaf_built, leaf_count}
@@ -29,7 +29,7 @@ use Rattle.model.proofs.Thinned.{Ended, Thins, becomes_both, becomes_sound, beco
 record Begun (n : ℕ) : Type 0 where
   given : List Bool
   pool : Pool
-  builds : build n given ≡ some pool
+  builds : build n given ≡ Some pool
   few : length pool.free < 2
   ended : Ended pool.tree
 

@@ -5,7 +5,7 @@ use native.Mathlib.Omega.{arith}
 use mathlib.Core.Path.{◌≡◌, refl, sym, ap, ◌∙◌}
 use mathlib.Core.Bool.{Bool, true, false}
 use mathlib.Core.List.{List, [], ◌∷◌, ◌++◌, map, reverse, reverse_aux}
-use mathlib.Core.Option.{Option, some}
+use Rattle.std.specs.Prelude.{Option, Some}
 use lib.ListN.{length, take, drop, length-take, length-drop}
 use lib.Dec.{ltb}
 use borrow.Author.Tests.{lt-ltb, le-ltb}
@@ -151,9 +151,9 @@ thin_leaf : (k n : ℕ) (xs : List Bool) → length xs ≡ leaf_least + k → (y
 unfolding lessen leaf_at size
 thin_leaf zero n xs e = (xs, e, ([], refl))
 thin_leaf (suc k) n xs e =
-    let some : 0 < length xs = omega arith in
-    let t = thin_leaf k n (Marks.remove 0 xs) (omega (arith, length_remove 0 xs some)) in
-    (t.0, t.1, (0 ∷ t.2.0, (some, omega arith, t.2.1)))
+    let Some : 0 < length xs = omega arith in
+    let t = thin_leaf k n (Marks.remove 0 xs) (omega (arith, length_remove 0 xs Some)) in
+    (t.0, t.1, (0 ∷ t.2.0, (Some, omega arith, t.2.1)))
 
 -- all leaves down to 33
 thin_all : (t : Tree) → Sized leaf_least t → (u : Tree) × Thins t u × (size u ≡ leaf_least * leaf_total u)
@@ -236,17 +236,17 @@ first_longer x (leaf n xs) = refl
 first_longer x (fork n l r) = first_longer x l
 
 insert_pool : (n : ℕ) (p : Pool) (x : Bool) → Sound n p → length (first_leaf p.tree) < leaf_most
-    → insert (two_free p) 0 x p ≡ some (record { tree = put_before (x ∷ []) p.tree; free = p.free })
+    → insert (two_free p) 0 x p ≡ Some (record { tree = put_before (x ∷ []) p.tree; free = p.free })
 unfolding splits
 insert_pool n p x s h =
     let sized = whole_sized p.tree s.whole in
     let front = ap length (leaf_front 0 p.tree sized) in
     let short : splits 0 p.tree ≡ false =
     by_leb leaf_split (suc (length (leaf_at 0 p.tree))) (λ _ k. absurd (omega arith)) (λ e _. rw (splits, e)) in
-    insert_outcomes (λ (o : Option Pool). o ≡ some (record { tree = put_before (x ∷ []) p.tree; free = p.free })) (two_free p) 0 x p
+    insert_outcomes (λ (o : Option Pool). o ≡ Some (record { tree = put_before (x ∷ []) p.tree; free = p.free })) (two_free p) 0 x p
     (λ split _. let z : ◌≡◌ {A = ℕ} 0 1 = cc in absurd (omega arith))
     (λ split _. let z : ◌≡◌ {A = ℕ} 0 1 = cc in absurd (omega arith))
-    (λ _. ap (λ (t : Tree). some (record { tree = t; free = p.free })) (insert_front 0 x p.free p.tree sized s.balanced h))
+    (λ _. ap (λ (t : Tree). Some (record { tree = t; free = p.free })) (insert_front 0 x p.free p.tree sized s.balanced h))
 
 -- the rightmost leaf of several holds a single mark
 abbrev pub Ended : Tree → Type 0

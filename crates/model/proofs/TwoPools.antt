@@ -5,7 +5,7 @@ use native.Mathlib.Omega.{arith}
 use mathlib.Core.Path.{◌≡◌, refl, sym, ap, ap₂, ◌∙◌}
 use mathlib.Core.Bool.{Bool, true, false}
 use mathlib.Core.List.{List, [], ◌∷◌, ◌++◌}
-use mathlib.Core.Option.{Option, none, some}
+use Rattle.std.specs.Prelude.{Option, None, Some}
 use lib.Dec.{leb, ltb}
 use lib.ListN.{length, drop, get_or, length-append}
 use Rattle.model.specs.Build as Build
@@ -83,11 +83,11 @@ numbers_split n (suc j) k (suc m) e =
 -- ---- the steps
 
 -- the same build
-pub build_wider : (n m : ℕ) (xs : List Bool) (p q : Pool) → n ≤ m → build n xs ≡ some p → build m xs ≡ some q → Wider p q
+pub build_wider : (n m : ℕ) (xs : List Bool) (p q : Pool) → n ≤ m → build n xs ≡ Some p → build m xs ≡ Some q → Wider p q
 build_wider n m xs p q h =
-    build_outcomes (λ (o : Option Pool). o ≡ some p → build m xs ≡ some q → Wider p q) n xs
+    build_outcomes (λ (o : Option Pool). o ≡ Some p → build m xs ≡ Some q → Wider p q) n xs
     (λ _ e. let z : ◌≡◌ {A = ℕ} 0 1 = cc in absurd (omega arith))
-    (λ room e. build_outcomes (λ (o : Option Pool). o ≡ some q → Wider p q) m xs
+    (λ room e. build_outcomes (λ (o : Option Pool). o ≡ Some q → Wider p q) m xs
     (λ _ f. let z : ◌≡◌ {A = ℕ} 0 1 = cc in absurd (omega arith))
     (λ more f.
     let need : ℕ = nodes_for (Build.leaf_count (length xs)) in
@@ -114,9 +114,9 @@ remove_wider i p q w =
 
 -- An insert. Both have room for it and stay as they are to each other; or neither has; or the smaller has none, and the larger has.
 pub data Steps (o o' : Option Pool) : Type 0 where
-  alike : (p q : Pool) → o ≡ some p → o' ≡ some q → Wider p q → Steps o o'
-  both_full : o ≡ none → o' ≡ none → Steps o o'
-  one_full : (q : Pool) → o ≡ none → o' ≡ some q → Steps o o'
+  alike : (p q : Pool) → o ≡ Some p → o' ≡ Some q → Wider p q → Steps o o'
+  both_full : o ≡ None → o' ≡ None → Steps o o'
+  one_full : (q : Pool) → o ≡ None → o' ≡ Some q → Steps o o'
 
 other : {A : Type 0} {b : Bool} → b ≡ true → b ≡ false → A
 other {b = b} t f = let e : ◌≡◌ {A = Bool} true false = sym t ∙ f in let z : ◌≡◌ {A = ℕ} 0 1 = cc in absurd (omega arith)
@@ -126,7 +126,7 @@ insert_wider i b p q h w =
     let same : splits i q.tree ≡ splits i p.tree = ap (splits i) w.tree in
     let more : length q.free ≡ length p.free + length w.more = ap length w.free ∙ length-append p.free w.more in
     insert_outcomes (λ (o : Option Pool). Steps o (insert (two_free q) i b q)) (two_free p) i b p
-    (λ split few. insert_outcomes (Steps none) (two_free q) i b q
+    (λ split few. insert_outcomes (Steps None) (two_free q) i b q
     (λ _ _. both_full refl refl)
     (λ _ _. one_full _ refl refl)
     (λ room. other split (sym same ∙ room)))

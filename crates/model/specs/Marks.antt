@@ -1,7 +1,7 @@
 -- A window's marks are a plain list of bits, the oldest first: `true` is a strike (the trigger fired), `false` a quiet
 -- frame. Here is what the storm analysts' orders mean on that list. It knows no tree, no word and no pool.
 use Rattle.std.specs.Prelude.{ℕ, zero, suc, ◌+◌, max, Bool, true, false, not, List, [], ◌∷◌, ◌++◌, map, take, drop, get_or}
-use Rattle.std.proofs.Math.Option.{Option, none, some}
+use Rattle.std.specs.Prelude.{Option, None, Some}
 
 -- the marks with b put in at place i: what stood at i and after it moves one place on
 unfoldable pub insert : ℕ → Bool → List Bool → List Bool
@@ -28,14 +28,14 @@ ones (false ∷ xs) = ones xs
 
 -- a place, counted from n places further back
 unfoldable pub further : ℕ → Option ℕ → Option ℕ
-further n none = none
-further n (some p) = some (n + p)
+further n None = None
+further n (Some p) = Some (n + p)
 
 -- the place of the k-th set bit, k counted from 1; none for k = 0 and for k above their number
 unfoldable pub place : ℕ → List Bool → Option ℕ
-place zero xs = none
-place (suc k) [] = none
-place (suc zero) (true ∷ xs) = some zero
+place zero xs = None
+place (suc k) [] = None
+place (suc zero) (true ∷ xs) = Some zero
 place (suc (suc k)) (true ∷ xs) = further 1 (place (suc k) xs)
 place (suc k) (false ∷ xs) = further 1 (place (suc k) xs)
 

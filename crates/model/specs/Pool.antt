@@ -1,7 +1,7 @@
 -- A pool of numbered nodes: the tree, and the chain of free numbers beside it. Inserting asks for room first, and is
 -- refused whole where there is none; what a remove frees goes first into the chain.
 use Rattle.std.specs.Prelude.{ℕ, zero, suc, ◌-◌, ◌*◌, Bool, true, false, ◌&&◌, not, List, [], ◌∷◌, ◌++◌, leb, length, drop}
-use Rattle.std.proofs.Math.Option.{Option, none, some}
+use Rattle.std.specs.Prelude.{Option, None, Some}
 use Rattle.model.specs.Tree.{Tree}
 use Rattle.model.specs.Build as Build
 use Rattle.model.specs.Edit as Edit
@@ -24,8 +24,8 @@ unfoldable pub build : ℕ → List Bool → Option Pool
 build n xs =
     let need : ℕ = nodes_for (Build.leaf_count (length xs)) in
     elim (leb need n) [
-      | true ↦ some (record { tree = Build.build xs; free = numbers_from need (n - need) })
-      | false ↦ none
+      | true ↦ Some (record { tree = Build.build xs; free = numbers_from need (n - need) })
+      | false ↦ None
     ]
 
 -- the window's rule of room: two nodes may be taken where two are free
@@ -41,8 +41,8 @@ full may i p = Edit.splits i p.tree && not may
 unfoldable pub insert : Bool → ℕ → Bool → Pool → Option Pool
 insert may i b p =
     elim (full may i p) [
-      | true ↦ none
-      | false ↦ some (record {
+      | true ↦ None
+      | false ↦ Some (record {
         tree = Edit.insert i b p.free p.tree;
         free = elim (Edit.splits i p.tree) [ true ↦ drop 2 p.free | false ↦ p.free ];
       })

@@ -1,7 +1,7 @@
 -- The reference cases R1 to R14 of docs/REFERENCE.md, as one table: each row is a question to the model and its answer.
 -- An answer is a list of numbers; the empty list says that there is none.
 use Rattle.std.specs.Prelude.{ℕ, zero, suc, ◌+◌, ◌-◌, ◌^◌, Bool, true, false, ◌&&◌, List, [], ◌∷◌, ◌++◌, map, eqb, length, replicate}
-use Rattle.std.proofs.Math.Option.{Option, none, some}
+use Rattle.std.specs.Prelude.{Option, None, Some}
 use Rattle.model.specs.Marks.{select}
 use Rattle.model.specs.Word.{bits}
 use Rattle.model.specs.Tree.{Tree, leaf, fork, height, leaves}
@@ -33,15 +33,15 @@ abbrev pub quiet : ℕ → List Bool
 quiet n = replicate n false
 
 unfoldable pub found : Option ℕ → List ℕ
-found none = []
-found (some p) = p ∷ []
+found None = []
+found (Some p) = p ∷ []
 
 unfoldable pub sizes : Tree → List ℕ
 sizes t = map length (leaves t)
 
 unfoldable pub sizes_of : Option Pool.Pool → List ℕ
-sizes_of none = []
-sizes_of (some p) = sizes p.tree
+sizes_of None = []
+sizes_of (Some p) = sizes p.tree
 
 unfoldable pub shape : Tree → List ℕ
 shape (leaf n xs) = 0 ∷ []

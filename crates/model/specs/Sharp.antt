@@ -1,7 +1,7 @@
 -- What it says that the floor of Full is sharp: a pool has no room for a mark while it holds no more than `least_full`,
 -- and a build and edits lead to it.
 use Rattle.std.specs.Prelude.{ℕ, ◌≤◌, ◌<◌, ◌≡◌, Bool, true, List, [], ◌∷◌, length}
-use Rattle.std.proofs.Math.Option.{some}
+use Rattle.std.specs.Prelude.{Some}
 use Rattle.model.specs.Edit.{leaf_at}
 use Rattle.model.specs.Limits.{least_full}
 use Rattle.model.specs.Pool.{Pool, build, full, insert, remove, two_free}
@@ -26,14 +26,14 @@ pub data Change : Type 0 where
 abbrev pub Becomes : List Change → Pool → Pool → Type 0
 Becomes [] p q = p ≡ q
 Becomes (put i b ∷ more) p q =
-    (i ≤ size p.tree) × (next : Pool) × (insert (two_free p) i b p ≡ some next) × Becomes more next q
+    (i ≤ size p.tree) × (next : Pool) × (insert (two_free p) i b p ≡ Some next) × Becomes more next q
 Becomes (out i ∷ more) p q = (i < size p.tree) × Becomes more (remove i p) q
 
 -- a build in n nodes and edits after it, by which a pool comes to such a state
 pub record Reached (n : ℕ) : Type 0 where
   pub given : List Bool
   pub built : Pool
-  pub builds : build n given ≡ some built
+  pub builds : build n given ≡ Some built
   pub changes : List Change
   pub pool : Pool
   pub becomes : Becomes changes built pool

@@ -1,32 +1,30 @@
 -- The number and the value of each answer. A refusal has the value 0.
-use Rattle.std.specs.Prelude.{ℕ}
-use Rattle.order.specs.declared.answer.Answer.{Answer}
-use Rattle.order.specs.declared.answer.Answer.TheVariants.{Done, OutOfRange, NoZeroth, TooFew, Full, Malformed, WrongSize, NotSound, ShortOutput, PartOrder, TooLong, LeafLacks}
+use Rattle.std.specs.Prelude.{ℕ, ◌≡◌, Result, Ok, Err}
+use Rattle.order.specs.declared.answer.Refusal.{Refusal}
+use Rattle.order.specs.declared.answer.Refusal.TheVariants.{OutOfRange, NoZeroth, TooFew, Full, Malformed, WrongSize, NotSound, ShortOutput, PartOrder, TooLong, LeafLacks}
+use Rattle.order.specs.declared.answer.TwoWords.{TwoWords}
+
+abbrev pub Answer : Type 0
+Answer = Result ℕ Refusal
 
 unfoldable pub code : Answer → ℕ
-code (Done v) = 0
-code OutOfRange = 1
-code NoZeroth = 2
-code TooFew = 3
-code Full = 4
-code Malformed = 5
-code WrongSize = 6
-code NotSound = 7
-code ShortOutput = 8
-code PartOrder = 9
-code TooLong = 10
-code LeafLacks = 11
+code (Ok v) = 0
+code (Err OutOfRange) = 1
+code (Err NoZeroth) = 2
+code (Err TooFew) = 3
+code (Err Full) = 4
+code (Err Malformed) = 5
+code (Err WrongSize) = 6
+code (Err NotSound) = 7
+code (Err ShortOutput) = 8
+code (Err PartOrder) = 9
+code (Err TooLong) = 10
+code (Err LeafLacks) = 11
 
 unfoldable pub value : Answer → ℕ
-value (Done v) = v
-value OutOfRange = 0
-value NoZeroth = 0
-value TooFew = 0
-value Full = 0
-value Malformed = 0
-value WrongSize = 0
-value NotSound = 0
-value ShortOutput = 0
-value PartOrder = 0
-value TooLong = 0
-value LeafLacks = 0
+value (Ok v) = v
+value (Err r) = 0
+
+-- two words are an answer's number and its value
+abbrev pub InWords : Answer → TwoWords → Type 0
+InWords a words = (words.code ≡ code a) × (words.value ≡ value a)

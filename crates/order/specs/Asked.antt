@@ -1,5 +1,10 @@
 -- What an order's three words ask.
-use Rattle.std.specs.Prelude.{ℕ, zero, suc, Bool, true, false}
+use Rattle.std.specs.Prelude.{ℕ, zero, suc, ◌≡◌, Bool, true, false, List, [], ◌∷◌, get_or, Result, Ok, Err}
+use Rattle.model.specs.Word.{digit}
+use Rattle.order.specs.declared.answer.Refusal.{Refusal}
+use Rattle.order.specs.declared.answer.Refusal.TheVariants.{Malformed}
+use Rattle.order.specs.declared.asked.Order.{Order}
+use Rattle.order.specs.declared.asked.Order.TheVariants.{Insert, Remove, Access, Rank, Select, Quiet}
 
 pub data Asked : Type 0 where
   inserting : ℕ → Bool → Asked
@@ -31,3 +36,38 @@ asks (suc (suc (suc (suc zero)))) x y = with_bit y (ranking x)
 asks (suc (suc (suc (suc (suc zero))))) x y = with_bit y (selecting x)
 asks (suc (suc (suc (suc (suc (suc zero)))))) x y = with_zero x (with_zero y quiet)
 asks (suc (suc (suc (suc (suc (suc (suc n))))))) x y = unknown
+
+-- the same of the three words together
+abbrev pub asked_by : List ℕ → Asked
+asked_by ws = asks (get_or ws 0 0) (get_or ws 1 0) (get_or ws 2 0)
+
+-- what an order asks
+abbrev pub asked_of : Order → Asked
+asked_of (Insert i b) = inserting i b
+asked_of (Remove i) = removing i
+asked_of (Access i) = accessing i
+asked_of (Rank end b) = ranking end b
+asked_of (Select k b) = selecting k b
+asked_of Quiet = quiet
+
+-- three words are read as the order that they ask, and are malformed where they ask nothing
+abbrev pub Reads : List ℕ → Result Order Refusal → Type 0
+Reads ws (Ok o) = asked_by ws ≡ asked_of o
+Reads ws (Err e) = (e ≡ Malformed) × (asked_by ws ≡ unknown)
+
+-- the three words of an order
+abbrev pub words_of : Order → List ℕ
+words_of (Insert i b) = 1 ∷ i ∷ digit b ∷ []
+words_of (Remove i) = 2 ∷ i ∷ 0 ∷ []
+words_of (Access i) = 3 ∷ i ∷ 0 ∷ []
+words_of (Rank end b) = 4 ∷ end ∷ digit b ∷ []
+words_of (Select k b) = 5 ∷ k ∷ digit b ∷ []
+words_of Quiet = 6 ∷ 0 ∷ 0 ∷ []
+
+abbrev pub Writes : Order → List ℕ → Type 0
+Writes o ws = ws ≡ words_of o
+
+-- a word is read as the bit that it is, or is malformed
+abbrev pub Bit : ℕ → Result Bool Refusal → Type 0
+Bit w (Ok b) = (ask : Bool → Asked) → with_bit w ask ≡ ask b
+Bit w (Err e) = (e ≡ Malformed) × ((ask : Bool → Asked) → with_bit w ask ≡ unknown)

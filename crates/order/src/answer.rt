@@ -1,53 +1,69 @@
-// What a call or an order answers. The number and the value of each case are given in specs/Answer.antt.
-ghost use Rattle.std.specs.Prelude.{◌≡◌};
-ghost use Rattle.order.specs.Answer.{code, value};
+// What a call or an order answers. The enum below gives each refusal its number; specs/Answer.antt defines the number
+// and the value case by case.
+ghost use Rattle.order.specs.Answer.{InWords};
 
-#[derive(Clone, Copy)]
-pub enum Answer {
-    Done(u64),
-    OutOfRange,
-    NoZeroth,
-    TooFew,
-    Full,
-    Malformed,
-    WrongSize,
-    NotSound,
-    ShortOutput,
-    PartOrder,
-    TooLong,
-    LeafLacks,
+use std::error::Error;
+use std::fmt;
+
+// Why a call or an order was not carried out, by its number.
+#[derive(Clone, Copy, Debug, PartialEq, Eq, Hash)]
+pub enum Refusal {
+    OutOfRange = 1,
+    NoZeroth = 2,
+    TooFew = 3,
+    Full = 4,
+    Malformed = 5,
+    WrongSize = 6,
+    NotSound = 7,
+    ShortOutput = 8,
+    PartOrder = 9,
+    TooLong = 10,
+    LeafLacks = 11,
 }
 
+// The value of a call or an order that is carried out, or why it was not.
+pub type Answer = Result<u64, Refusal>;
+
 // An answer as two words.
-#[derive(Clone, Copy)]
+#[derive(Clone, Copy, Debug, PartialEq, Eq, Hash)]
 pub struct TwoWords {
     pub code: u64,
     pub value: u64,
 }
 
-fn refusal(code: u64) -> TwoWords
-    ensures { (result.code ≡ code) × (result.value ≡ 0) }
-{
-    TwoWords { code, value: 0 }
-}
-
 // An answer's number and value.
-#[tactic(auto, unfolding(crate::specs::Answer::code, crate::specs::Answer::value))]
-pub fn as_words(answer: Answer) -> TwoWords
-    ensures { (result.code ≡ code answer) × (result.value ≡ value answer) }
-{
-    match answer {
-        Answer::Done(value) => TwoWords { code: 0, value },
-        Answer::OutOfRange => refusal(1),
-        Answer::NoZeroth => refusal(2),
-        Answer::TooFew => refusal(3),
-        Answer::Full => refusal(4),
-        Answer::Malformed => refusal(5),
-        Answer::WrongSize => refusal(6),
-        Answer::NotSound => refusal(7),
-        Answer::ShortOutput => refusal(8),
-        Answer::PartOrder => refusal(9),
-        Answer::TooLong => refusal(10),
-        Answer::LeafLacks => refusal(11),
+impl From<Answer> for TwoWords {
+    ghost from_gives = { InWords };
+
+    #[tactic(auto, unfolding(crate::specs::Answer::code, crate::specs::Answer::value))]
+    fn from(answer: Answer) -> TwoWords {
+        match answer {
+            Ok(value) => TwoWords { code: 0, value },
+            Err(refusal) => TwoWords {
+                code: refusal as u64,
+                value: 0,
+            },
+        }
     }
 }
+
+// For a host on the ground that prints why.
+impl fmt::Display for Refusal {
+    fn fmt<W: fmt::Write>(&self, f: &mut fmt::Formatter<W>) -> fmt::Result {
+        f.write_str(match self {
+            Refusal::OutOfRange => "index or end out of range",
+            Refusal::NoZeroth => "there is no mark before the first",
+            Refusal::TooFew => "too few such marks",
+            Refusal::Full => "no room",
+            Refusal::Malformed => "no such order",
+            Refusal::WrongSize => "not as many words as a pool has",
+            Refusal::NotSound => "no sound pool",
+            Refusal::ShortOutput => "the output is too short",
+            Refusal::PartOrder => "a part of an order",
+            Refusal::TooLong => "more marks than the words have",
+            Refusal::LeafLacks => "the leaf lacks the mark",
+        })
+    }
+}
+
+impl Error for Refusal {}

@@ -1,9 +1,11 @@
-// An order's three words and the two of its answer: the numbers of the orders, and what is answered. What the words ask
-// and what a plain list of marks answers is in specs/.
+// An order and its three words, and an answer and its two. What the words ask and what a plain list of marks answers is
+// in specs/.
 #![tactic(auto)]
 
 mod answer;
+mod asked;
 mod number;
 
-pub use answer::{Answer, TwoWords, as_words};
-pub use number::{ACCESS, ANSWER_WORDS, INSERT, ORDER_WORDS, QUIET, RANK, REMOVE, SELECT};
+pub use answer::{Answer, Refusal, TwoWords};
+pub use asked::Order;
+pub use number::{ANSWER_WORDS, ORDER_WORDS};

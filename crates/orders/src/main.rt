@@ -4,13 +4,12 @@
 // that a line leaves. Only run: that the bytes are read and handed on.
 #![tactic(auto)]
 
-ghost use Rattle.std.specs.Prelude.{◌≤◌, length};
-ghost use Rattle.std.specs.Io.{ReadsAtMost};
 ghost use Rattle.orders.specs.Loop.{Plays};
 
+use octets::read_full;
 use script::play;
 use std::io;
-use std::io::{ErrorKind, Read, Write};
+use std::io::{ErrorKind, Write};
 
 const MOST_WORDS: usize = 6144;
 
@@ -19,34 +18,13 @@ const INPUT: usize = 16385;
 
 const LINE: usize = 17408;
 
-// Reads until the bytes are full or the input ends, and says how many of them, from the first on, were read.
-fn read_full<R: Read>(reader: &mut R, bytes: &mut [u8]) -> io::Result<usize>
-    ensures { ReadsAtMost result bytes.new }
-{
-    let mut done = 0;
-    while done < bytes.len() {
-        let more = reader.read(&mut bytes[done..])?;
-        if more == 0 {
-            break;
-        }
-        done += more;
-    }
-    Ok(done)
-}
-
-// Writes the first bytes, so many.
-fn write<W: Write>(writer: &mut W, bytes: &[u8], count: usize) -> io::Result<()>
-    requires { count ≤ length bytes.now }
-{
-    writer.write_all(&bytes[..count])
-}
-
 // Plays the lines of an input one after the other, and writes what each prints. It stops at a line that is not written.
+// Each line tells where the next one begins, and the loop goes by that place.
 fn play_all<W: Write>(
     writer: &mut W,
     input: &[u8],
-    pool: &mut [u64; 6144],
-    out: &mut [u8; 17408],
+    pool: &mut [u64; MOST_WORDS],
+    out: &mut [u8; LINE],
 ) -> io::Result<()>
     ensures { Plays input.now pool.old pool.new }
 {
@@ -54,7 +32,7 @@ fn play_all<W: Write>(
     let mut nodes = 0;
     while at < input.len() {
         let next = play(input, at, nodes, pool, out);
-        write(writer, out, next.end)?;
+        writer.write_all(&out[..next.end])?;
         at = next.at;
         nodes = next.nodes;
     }

@@ -3,6 +3,9 @@
 use Prim.Native.Nat.{ℕ}
 use native.Mathlib.Omega.{arith}
 use mathlib.Core.Path.{◌≡◌, sym, ◌∙◌}
+use denote.Param.Laws.{Laws}
+use denote.RattleType.{RattleType}
+use mir.Syntax.{Dict}
 use Rattle.model.specs.Contract.{Pinned}
 use Rattle.pool.proofs.node.next_free.Reads as next_free
 use Rattle.pool.specs.Node.{as_node}
@@ -16,10 +19,15 @@ use Rattle.pool.proofs.node.less_left.Reads as less_left
 use Rattle.pool.proofs.node.move_node.Reads as move_node
 use Rattle.pool.proofs.node.node_at.Reads as node_at
 use Rattle.pool.proofs.node.node_count.Reads as node_count
-use Rattle.pool.proofs.node.set_fork.Reads as set_fork
-use Rattle.pool.proofs.node.set_free.Reads as set_free
-use Rattle.pool.proofs.node.set_leaf.Reads as set_leaf
+use Rattle.pool.proofs.node.ForkFromCell.from.Reads as fork_from
+use Rattle.pool.proofs.node.ForkWords.words.Reads as fork_words
+use Rattle.pool.proofs.node.FreeWords.words.Reads as free_words
+use Rattle.pool.proofs.node.LeafFromCell.from.Reads as leaf_from
+use Rattle.pool.proofs.node.LeafWords.words.Reads as leaf_words
+use Rattle.pool.proofs.node.NodeFromCell.from.Reads as node_from
 use Rattle.pool.proofs.node.set_left.Reads as set_left
+use Rattle.pool.proofs.node.set_node.Reads as set_node
+use Rattle.pool.specs.declared.node.Words as Words
 
 -- two tree nodes that are one node
 one_node : (x y : TreeNode) → as_node x ≡ as_node y → x ≡ y
@@ -49,14 +57,28 @@ balance_at_pinned κs a r r' w w' p q = p ∙ sym q
 pub next_free_pinned : Pinned next_free.Post
 next_free_pinned κs a r r' w w' p q = p ∙ sym q
 
-pub set_free_pinned : (κs : _) (a : _) (r r' : _) (w w' : _) → set_free.Post κs a r w → set_free.Post κs a r' w' → w.0.now ≡ w'.0.now
-set_free_pinned κs a r r' w w' p q = p ∙ sym q
+pub free_words_pinned : Pinned free_words.Post
+free_words_pinned κs a r r' w w' p q = p ∙ sym q
 
-pub set_leaf_pinned : (κs : _) (a : _) (r r' : _) (w w' : _) → set_leaf.Post κs a r w → set_leaf.Post κs a r' w' → w.0.now ≡ w'.0.now
-set_leaf_pinned κs a r r' w w' p q = p ∙ sym q
+pub leaf_words_pinned : Pinned leaf_words.Post
+leaf_words_pinned κs a r r' w w' p q = p ∙ sym q
 
-pub set_fork_pinned : (κs : _) (a : _) (r r' : _) (w w' : _) → set_fork.Post κs a r w → set_fork.Post κs a r' w' → w.0.now ≡ w'.0.now
-set_fork_pinned κs a r r' w w' p q = p ∙ sym q
+pub fork_words_pinned : Pinned fork_words.Post
+fork_words_pinned κs a r r' w w' p q = p ∙ sym q
+
+pub leaf_from_pinned : Pinned leaf_from.Post
+leaf_from_pinned κs a r r' w w' p q = p ∙ sym q
+
+pub fork_from_pinned : Pinned fork_from.Post
+fork_from_pinned κs a r r' w w' p q = p ∙ sym q
+
+pub node_from_pinned : Pinned node_from.Post
+node_from_pinned κs a r r' w w' p q = p ∙ sym q
+
+-- of whatever type the node that is put: a free one, a leaf, a fork
+pub set_node_pinned : (T : RattleType) (l : Laws T) (n : Words.Ghosts T.Denot) (d : Dict) (κs : _) (a : _) (r r' : _) (w w' : _)
+    → set_node.Post T l n d κs a r w → set_node.Post T l n d κs a r' w' → w.0.now ≡ w'.0.now
+set_node_pinned T l n d κs a r r' w w' p q = p ∙ sym q
 
 pub move_node_pinned : (κs : _) (a : _) (r r' : _) (w w' : _) → move_node.Post κs a r w → move_node.Post κs a r' w' → w.0.now ≡ w'.0.now
 move_node_pinned κs a r r' w w' p q = p ∙ sym q

@@ -3,14 +3,27 @@
 --     free        0, next free number, 0, 0, 0, 0
 --     leaf        1, low word, high word, 0, 0, 0
 --     fork        2, left, right, left total, left ones, balance + 2
-use Rattle.std.specs.Prelude.{ℕ, zero, suc, ◌+◌, ◌-◌, ◌*◌, ◌/◌, ◌≤◌, ◌≡◌, true, false, List, ltb, length, get_or, set}
+use Rattle.std.specs.Prelude.{ℕ, zero, suc, ◌+◌, ◌-◌, ◌*◌, ◌/◌, ◌≤◌, ◌<◌, ◌≡◌, true, false, List, ltb, length, get_or, set}
+use Rattle.std.specs.Prelude.{Result, MatchResult}
 use Rattle.bits.specs.declared.leaf.Leaf.{Leaf}
 use Rattle.pool.specs.declared.node.Cell.{Cell}
 use Rattle.pool.specs.declared.node.Fork.{Fork}
+use Rattle.pool.specs.declared.node.Kind.{Kind}
+use Rattle.pool.specs.declared.node.Kind.TheVariants.{Free as Kind_as_Free, Leaf as Kind_as_Leaf, Fork as Kind_as_Fork}
 use Rattle.pool.specs.declared.node.Node.{Node}
 use Rattle.pool.specs.declared.node.TreeNode.{TreeNode}
+use Rattle.pool.specs.declared.node.UnknownKind.{UnknownKind}
 use Rattle.pool.specs.declared.node.TreeNode.TheVariants.{Leaf as TreeNode_as_Leaf, Fork as TreeNode_as_Fork}
 use Rattle.pool.specs.declared.node.Node.TheVariants.{Free as free, Leaf as leaf, Fork as fork, Broken as broken}
+
+-- the kind that a first word names, or that it names none
+abbrev pub kind_number : Kind → ℕ
+kind_number Kind_as_Free = 0
+kind_number Kind_as_Leaf = 1
+kind_number Kind_as_Fork = 2
+
+abbrev pub IsKind : ℕ → Result Kind UnknownKind → Type 0
+IsKind word r = MatchResult r (λ kind. kind_number kind ≡ word) (λ e. (e.0 ≡ word) × (2 < word))
 
 -- the words of a node
 abbrev pub node_words : ℕ

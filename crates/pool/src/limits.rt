@@ -6,7 +6,7 @@ pub const NODE_WORDS: u64 = 6;
 
 pub const MOST_NODES: u64 = 1023;
 
-// No leaf of so many nodes is further down.
+// No leaf of a tree of so many nodes is more than this many forks down.
 pub const LEVELS: u64 = 12;
 
 // A leaf of several that is not the rightmost holds at least this many marks. A neighbour that holds no more is joined.

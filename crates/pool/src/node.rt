@@ -8,21 +8,46 @@
 //     fork        2, left, right, left total, left ones, balance + 2
 ghost use Rattle.std.specs.Prelude.{◌≡◌, ℕ, ◌<◌, ◌≤◌};
 ghost use Rattle.pool.specs.Node.{LeafOrFork, OfTree, as_node, balance_in, cell_at, fork_cell, fork_in};
-ghost use Rattle.pool.specs.Node.{fork_words, free_cell, if_zero, leaf_cell, leaf_in, leaf_words, less_left};
+ghost use Rattle.pool.specs.Node.{IsKind, fork_words, free_cell, if_zero, leaf_cell, leaf_in, leaf_words, less_left};
 ghost use Rattle.pool.specs.Node.{next_in, node_at, node_of, nodes_in, of_kind, put, put_node, with_left};
 
 use crate::limits::NODE_WORDS;
 use bits::Leaf;
 
-const FREE: u64 = 0;
+// What stands in a node, by the number that is its first word.
+#[derive(Clone, Copy)]
+enum Kind {
+    Free = 0,
+    Leaf = 1,
+    Fork = 2,
+}
 
-const LEAF: u64 = 1;
+// A first word that names no kind of node.
+#[derive(Clone, Copy)]
+struct UnknownKind(u64);
 
-const FORK: u64 = 2;
+impl TryFrom<u64> for Kind {
+    type Error = UnknownKind;
+
+    ghost try_from_gives = { IsKind };
+
+    fn try_from(word: u64) -> Result<Kind, UnknownKind> {
+        match word {
+            0 => Ok(Kind::Free),
+            1 => Ok(Kind::Leaf),
+            2 => Ok(Kind::Fork),
+            _ => Err(UnknownKind(word)),
+        }
+    }
+}
+
+// A free node, which holds the number of the next one.
+#[derive(Clone, Copy, Debug, PartialEq, Eq, Hash)]
+pub struct Free(pub u64);
 
 // A fork's children, how many marks and how many strikes its left child holds, and its balance as stored, two more than
 // right height less left height.
-#[derive(Clone, Copy)]
+#[derive(Clone, Copy, Debug, PartialEq, Eq, Hash)]
 pub struct Fork {
     pub left: u64,
     pub right: u64,
@@ -31,7 +56,9 @@ pub struct Fork {
     pub balance: u64,
 }
 
-#[derive(Clone, Copy)]
+// What stands at a number. Broken is a kind of its own and no missing value: who reads a node names the kind that is
+// wanted, which is no plainer over an Option.
+#[derive(Clone, Copy, Debug, PartialEq, Eq, Hash)]
 pub enum Node {
     Free(u64),
     Leaf(Leaf),
@@ -40,21 +67,77 @@ pub enum Node {
 }
 
 // A node of a tree.
-#[derive(Clone, Copy)]
+#[derive(Clone, Copy, Debug, PartialEq, Eq, Hash)]
 pub enum TreeNode {
     Leaf(Leaf),
     Fork(Fork),
 }
 
 // The six words of a node as they stand.
-#[derive(Clone, Copy)]
-struct Cell {
+#[derive(Clone, Copy, Debug, PartialEq, Eq, Hash)]
+pub struct Cell {
     kind: u64,
     second: u64,
     third: u64,
     fourth: u64,
     fifth: u64,
     sixth: u64,
+}
+
+// What is put at a number: its six words. Beside `Into<Cell>`, whose contract is a relation: of this one a caller knows
+// the very words.
+pub trait Words {
+    ghost use Rattle.pool.specs.declared.node.Cell.{Cell};
+
+    ghost cell: { Self → Cell };
+
+    fn words(self) -> Cell
+        ensures { result ≡ cell self };
+}
+
+impl Words for Free {
+    ghost cell = { λ f. free_cell f.0 };
+
+    fn words(self) -> Cell {
+        Cell {
+            kind: Kind::Free as u64,
+            second: self.0,
+            third: 0,
+            fourth: 0,
+            fifth: 0,
+            sixth: 0,
+        }
+    }
+}
+
+impl Words for Leaf {
+    ghost cell = { leaf_cell };
+
+    fn words(self) -> Cell {
+        Cell {
+            kind: Kind::Leaf as u64,
+            second: self.low,
+            third: self.high,
+            fourth: 0,
+            fifth: 0,
+            sixth: 0,
+        }
+    }
+}
+
+impl Words for Fork {
+    ghost cell = { fork_cell };
+
+    fn words(self) -> Cell {
+        Cell {
+            kind: Kind::Fork as u64,
+            second: self.left,
+            third: self.right,
+            fourth: self.left_total,
+            fifth: self.left_ones,
+            sixth: self.balance,
+        }
+    }
 }
 
 // How many nodes these words have room for.
@@ -64,7 +147,8 @@ pub fn node_count(nodes: &[u64]) -> u64
     nodes.len() as u64 / NODE_WORDS
 }
 
-// Node n's six words; n is a node's number.
+// Node n's six words; n is a node's number. They are read one by one: cut by sixes, each read would divide the slice's
+// length.
 fn cell_at(nodes: &[u64], n: u64) -> Cell
     requires { n < nodes_in nodes.now }
     ensures { result ≡ cell_at nodes.now n }
@@ -80,7 +164,8 @@ fn cell_at(nodes: &[u64], n: u64) -> Cell
     }
 }
 
-// Writes node n's six words, where there is such a node.
+// Writes node n's six words, where there is such a node. They are written one by one: of six that were
+// lent for writing nothing is known afterwards.
 fn put_cell(nodes: &mut [u64], n: u64, cell: Cell)
     ensures { nodes.new ≡ put nodes.old n cell }
 {
@@ -96,64 +181,50 @@ fn put_cell(nodes: &mut [u64], n: u64, cell: Cell)
 }
 
 // The leaf that six words hold, and the fork.
-fn leaf_in(cell: Cell) -> Leaf
-    ensures { result ≡ leaf_words cell }
-{
-    Leaf {
-        low: cell.second,
-        high: cell.third,
+impl From<Cell> for Leaf {
+    ghost from_gives = { λ cell leaf. leaf ≡ leaf_words cell };
+
+    fn from(cell: Cell) -> Leaf {
+        Leaf {
+            low: cell.second,
+            high: cell.third,
+        }
     }
 }
 
-fn fork_in(cell: Cell) -> Fork
-    ensures { result ≡ fork_words cell }
-{
-    Fork {
-        left: cell.second,
-        right: cell.third,
-        left_total: cell.fourth,
-        left_ones: cell.fifth,
-        balance: cell.sixth,
+impl From<Cell> for Fork {
+    ghost from_gives = { λ cell fork. fork ≡ fork_words cell };
+
+    fn from(cell: Cell) -> Fork {
+        Fork {
+            left: cell.second,
+            right: cell.third,
+            left_total: cell.fourth,
+            left_ones: cell.fifth,
+            balance: cell.sixth,
+        }
     }
-}
-
-// A node, if the word beside it is zero.
-fn if_zero(word: u64, node: Node) -> Node
-    ensures { result ≡ if_zero word node }
-{
-    if word == 0 {
-        return node;
-    }
-    Node::Broken
-}
-
-fn free_of(cell: Cell) -> Node
-    ensures { result ≡ of_kind 0 cell }
-{
-    let node = Node::Free(cell.second);
-    if_zero(
-        cell.third,
-        if_zero(cell.fourth, if_zero(cell.fifth, if_zero(cell.sixth, node))),
-    )
-}
-
-fn leaf_of(cell: Cell) -> Node
-    ensures { result ≡ of_kind 1 cell }
-{
-    let node = Node::Leaf(leaf_in(cell));
-    if_zero(cell.fourth, if_zero(cell.fifth, if_zero(cell.sixth, node)))
 }
 
 // What six words are laid out as.
-fn node_of(cell: Cell) -> Node
-    ensures { result ≡ node_of cell }
-{
-    let kind = cell.kind;
-    match kind {
-        FREE => free_of(cell),
-        LEAF => leaf_of(cell),
-        FORK => Node::Fork(fork_in(cell)),
-        _ => Node::Broken,
+impl From<Cell> for Node {
+    ghost from_gives = { λ cell node. node ≡ node_of cell };
+
+    fn from(cell: Cell) -> Node {
+        let Cell {
+            second,
+            third,
+            fourth,
+            fifth,
+            sixth,
+            ..
+        } = cell;
+        match (Kind::try_from(cell.kind), third, fourth, fifth, sixth) {
+            (Ok(Kind::Free), 0, 0, 0, 0) => Node::Free(second),
+            (Ok(Kind::Leaf), _, 0, 0, 0) => Node::Leaf(cell.into()),
+            (Ok(Kind::Fork), _, _, _, _) => Node::Fork(cell.into()),
+            _ => Node::Broken,
+        }
     }
 }
 
@@ -161,7 +232,7 @@ pub fn node_at(nodes: &[u64], n: u64) -> Node
     ensures { result ≡ node_at nodes.now n }
 {
     if n < node_count(nodes) {
-        return node_of(cell_at(nodes, n));
+        return cell_at(nodes, n).into();
     }
     Node::Broken
 }
@@ -174,17 +245,18 @@ pub fn leaf_or_fork(nodes: &[u64], n: u64) -> TreeNode
 {
     let cell = cell_at(nodes, n);
     if cell.fourth == 0 {
-        return TreeNode::Leaf(leaf_in(cell));
+        return TreeNode::Leaf(cell.into());
     }
-    TreeNode::Fork(fork_in(cell))
+    TreeNode::Fork(cell.into())
 }
 
-// The leaf at n, where one stands there.
+// The leaf at n, where one stands there. It and `fork_at` are two functions, since each asks for its kind of node,
+// which one for both would have to be told.
 pub fn leaf_at(nodes: &[u64], n: u64) -> Leaf
     requires { (l : Leaf) × (node_at nodes.now n ≡ Node.Leaf l) }
     ensures { result ≡ leaf_in (node_at nodes.now n) }
 {
-    leaf_in(cell_at(nodes, n))
+    cell_at(nodes, n).into()
 }
 
 // The fork at n, where one stands there.
@@ -192,7 +264,7 @@ pub fn fork_at(nodes: &[u64], n: u64) -> Fork
     requires { (f : Fork) × (node_at nodes.now n ≡ Node.Fork f) }
     ensures { result ≡ fork_in (node_at nodes.now n) }
 {
-    fork_in(cell_at(nodes, n))
+    cell_at(nodes, n).into()
 }
 
 // The balance that the fork at n stores, and 0 where a leaf stands there.
@@ -200,8 +272,7 @@ pub fn balance_at(nodes: &[u64], n: u64) -> u64
     requires { OfTree (node_at nodes.now n) }
     ensures { result ≡ balance_in (node_at nodes.now n) }
 {
-    let cell = cell_at(nodes, n);
-    cell.sixth
+    cell_at(nodes, n).sixth
 }
 
 // The number after n in the free chain, where a free node stands at n.
@@ -209,59 +280,14 @@ pub fn next_free(nodes: &[u64], n: u64) -> u64
     requires { (k : ℕ) × (node_at nodes.now n ≡ Node.Free k) }
     ensures { result ≡ next_in (nodes_in nodes.now) (node_at nodes.now n) }
 {
-    let cell = cell_at(nodes, n);
-    cell.second
+    cell_at(nodes, n).second
 }
 
-pub fn set_free(nodes: &mut [u64], n: u64, next: u64)
-    ensures { nodes.new ≡ put nodes.old n (free_cell next) }
+// Puts a free node, a leaf or a fork at n, where there is such a node.
+pub fn set_node<W: Words>(nodes: &mut [u64], n: u64, node: W)
+    ensures { nodes.new ≡ put nodes.old n (W.cell node) }
 {
-    put_cell(
-        nodes,
-        n,
-        Cell {
-            kind: FREE,
-            second: next,
-            third: 0,
-            fourth: 0,
-            fifth: 0,
-            sixth: 0,
-        },
-    );
-}
-
-pub fn set_leaf(nodes: &mut [u64], n: u64, leaf: Leaf)
-    ensures { nodes.new ≡ put nodes.old n (leaf_cell leaf) }
-{
-    put_cell(
-        nodes,
-        n,
-        Cell {
-            kind: LEAF,
-            second: leaf.low,
-            third: leaf.high,
-            fourth: 0,
-            fifth: 0,
-            sixth: 0,
-        },
-    );
-}
-
-pub fn set_fork(nodes: &mut [u64], n: u64, fork: Fork)
-    ensures { nodes.new ≡ put nodes.old n (fork_cell fork) }
-{
-    put_cell(
-        nodes,
-        n,
-        Cell {
-            kind: FORK,
-            second: fork.left,
-            third: fork.right,
-            fourth: fork.left_total,
-            fifth: fork.left_ones,
-            sixth: fork.balance,
-        },
-    );
+    put_cell(nodes, n, node.words());
 }
 
 // Writes what the fork at n says of its left child: so many marks, so many of them strikes. Only these two words are
@@ -292,6 +318,5 @@ pub fn move_node(nodes: &mut [u64], from: u64, to: u64)
     requires { OfTree (node_at nodes.old «from») }
     ensures { nodes.new ≡ put_node nodes.old to (node_at nodes.old «from») }
 {
-    let cell = cell_at(nodes, from);
-    put_cell(nodes, to, cell);
+    put_cell(nodes, to, cell_at(nodes, from));
 }

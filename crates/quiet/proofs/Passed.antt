@@ -1,11 +1,12 @@
 -- Marks that have gone by: one after the other they go by as all at once, and the longest quiet of a watch from the start is that of the list.
 use Prim.Native.Nat.{ℕ, zero, suc, ◌+◌, ◌-◌, ◌/◌, ◌%◌, ◌^◌, ◌≤◌, ◌<◌, max}
-use native.Mathlib.Nat.{add-zero, div-one, max-eq_left, max-eq_right, pow-suc}
+use native.Mathlib.Nat.{add-zero, div-one, max-eq_left, pow-suc}
 use native.Mathlib.Numerals.{add-one, one-add}
 use native.Mathlib.Omega.{arith}
 use mathlib.Core.Path.{◌≡◌, refl, sym, ap, ap₂, ◌∙◌}
 use mathlib.Core.Bool.{Bool, true, false}
 use mathlib.Core.List.{List, [], ◌∷◌, ◌++◌}
+use Rattle.std.specs.Prelude.{Option, None, Some, option_map, unwrap_or}
 use lib.Count.{count_trailing_zeros}
 use lib.ListN.{length, take, replicate}
 use lib.Pow.{pow_pos, shr_le, shr-shr}
@@ -17,7 +18,7 @@ use Rattle.model.proofs.Words.{bits_add, bits_length, take_bits}
 use Rattle.bits.specs.Leaf.{bits_of, leaf_of}
 use Rattle.bits.specs.declared.leaf.Leaf.{Leaf}
 use Rattle.bits.proofs.Held.{held_bits}
-use Rattle.quiet.specs.Watching.{ended, later, start, step, watched}
+use Rattle.quiet.specs.Watching.{ended, later, passed, start, step, watched}
 use Rattle.quiet.specs.declared.longest.Watch.{Watch}
 
 -- ---- lists of marks
@@ -27,13 +28,18 @@ unfolding watched
 watched_append w [] ys = refl
 watched_append w (x ∷ xs) ys = watched_append (step w x) xs ys
 
+-- quiet frames add no more than they are
+more_passed : (since : Option ℕ) (n : ℕ) → unwrap_or (option_map (λ since. since + n) since) 0 ≤ unwrap_or since 0 + n
+more_passed None n = omega arith
+more_passed (Some since) n = omega arith
+
 -- a mark adds at most one quiet frame
-step_since : (w : Watch) (b : Bool) → (step w b).since ≤ w.since + 1
+step_since : (w : Watch) (b : Bool) → passed (step w b) ≤ passed w + 1
 unfolding step
 step_since w true = omega arith
-step_since w false = omega arith
+step_since w false = more_passed w.since 1
 
-pub watched_since : (w : Watch) (xs : List Bool) → (watched w xs).since ≤ w.since + length xs
+pub watched_since : (w : Watch) (xs : List Bool) → passed (watched w xs) ≤ passed w + length xs
 unfolding watched
 watched_since w [] = omega arith
 watched_since w (x ∷ xs) = omega (arith, watched_since (step w x) xs, step_since w x)
@@ -42,61 +48,51 @@ watched_since w (x ∷ xs) = omega (arith, watched_since (step w x) xs, step_sin
 
 -- after a strike, with so many quiet frames since
 longest_after : (since longest : ℕ) (xs : List Bool)
-    → (watched (record { struck = true; since = since; longest = longest }) xs).longest ≡ max longest (greatest (quiets_since since xs))
+    → (watched (record { since = Some since; longest = longest }) xs).longest ≡ max longest (greatest (quiets_since since xs))
 unfolding watched step ended quiets_since greatest
 longest_after since longest [] = omega arith
 longest_after since longest (true ∷ xs) = omega (arith, longest_after 0 (max longest since) xs)
 longest_after since longest (false ∷ xs) = rw (← add-one since) (longest_after (since + 1) longest xs)
 
--- before the first strike, however many quiet frames have passed
-longest_before : (since longest : ℕ) (xs : List Bool)
-    → (watched (record { struck = false; since = since; longest = longest }) xs).longest ≡ max longest (greatest (quiets xs))
+-- before the first strike
+longest_before : (longest : ℕ) (xs : List Bool)
+    → (watched (record { since = None; longest = longest }) xs).longest ≡ max longest (greatest (quiets xs))
 unfolding watched step ended quiets greatest
-longest_before since longest [] = omega arith
-longest_before since longest (true ∷ xs) = longest_after 0 longest xs
-longest_before since longest (false ∷ xs) = longest_before (since + 1) longest xs
+longest_before longest [] = omega arith
+longest_before longest (true ∷ xs) = longest_after 0 longest xs
+longest_before longest (false ∷ xs) = longest_before longest xs
 
 pub watched_longest : (xs : List Bool) → (watched start xs).longest ≡ longest_quiet xs
 unfolding longest_quiet
-watched_longest xs = omega (arith, longest_before 0 0 xs)
-
--- ---- a strike
-
-module _ (w : Watch) where
-  -- it ends the longest quiet so far
-  pub strike_longer : w.struck ≡ true → w.longest < w.since → record { struck = true; since = 0; longest = w.since } ≡ step w true
-  unfolding step ended
-  strike_longer s l = rw (s, max-eq_right {n = w.longest} {m = w.since} (omega arith))
-
-  -- it ends a shorter one
-  pub strike_shorter : w.struck ≡ true → w.since ≤ w.longest → record { struck = true; since = 0; longest = w.longest } ≡ step w true
-  unfolding step ended
-  strike_shorter s l = rw (s, max-eq_left {n = w.longest} {m = w.since} l)
-
-  -- the first one ends none
-  pub strike_first : w.struck ≡ false → record { struck = true; since = 0; longest = w.longest } ≡ step w true
-  unfolding step ended
-  strike_first s = rw s
-
-  -- after it no quiet frame has passed
-  pub strike_since : (step w true).since ≡ 0
-  unfolding step
-  strike_since = refl
+watched_longest xs = omega (arith, longest_before 0 xs)
 
 -- ---- quiet frames, and strikes with none between them
+
+no_more : (since : Option ℕ) → option_map (λ since. since + 0) since ≡ since
+no_more None = refl
+no_more (Some since) = ap Some (add-zero since)
+
+one_more : (since : Option ℕ) (n : ℕ)
+    → option_map (λ since. since + n) (option_map (λ since. since + 1) since) ≡ option_map (λ since. since + suc n) since
+one_more None n = refl
+one_more (Some since) n = ap Some (let k : since + 1 + n ≡ since + suc n = omega arith in k)
 
 -- quiet frames go by one after the other
 pub watched_quiets : (n : ℕ) (w : Watch) → watched w (replicate n false) ≡ later n w
 unfolding watched step
-watched_quiets zero w = rw (add-zero w.since)
+watched_quiets zero w = ap (λ (since : Option ℕ). record { since = since; longest = w.longest }) (sym (no_more w.since))
 watched_quiets (suc n) w =
-    watched_quiets n (step w false)
-    ∙ ap (λ (k : ℕ). record { struck = w.struck; since = k; longest = w.longest }) (let k : w.since + 1 + n ≡ w.since + suc n = omega arith in k)
+    watched_quiets n (later 1 w) ∙ ap (λ (since : Option ℕ). record { since = since; longest = w.longest }) (one_more w.since n)
+
+-- right after a strike none has passed
+pub strike_passed : (w : Watch) → passed (step w true) ≡ 0
+unfolding step
+strike_passed w = refl
 
 -- a strike right after another changes nothing
 strike_again : (w : Watch) → step (step w true) true ≡ step w true
 unfolding step ended
-strike_again w = rw (max-eq_left {n = ended w.struck w.since w.longest} {m = 0} (omega arith))
+strike_again w = rw (max-eq_left {n = ended w.since w.longest} {m = 0} (omega arith))
 
 watched_strikes : (n : ℕ) (w : Watch) → watched (step w true) (replicate n true) ≡ step w true
 unfolding watched

@@ -4,4 +4,4 @@ use Rattle.model.proofs.Contracts.{one_value_where}
 use Rattle.quiet.proofs.longest.longest_quiet.Reads as longest_quiet
 
 pub longest_quiet_pinned : PinnedWhere longest_quiet.Pre longest_quiet.Post
-longest_quiet_pinned = one_value_where (λ κs a r w t f. f t.0 t.1 t.2)
+longest_quiet_pinned = one_value_where (λ κs a r w t f. f t)

@@ -10,7 +10,7 @@ use Rattle.bits.specs.Leaf.{bits_of}
 use Rattle.bits.specs.declared.leaf.Leaf.{Leaf}
 use Rattle.pool.specs.declared.node.Fork.{Fork}
 use Rattle.tree.proofs.Down.{Lone, Parts}
-use Rattle.quiet.specs.Watching.{watched}
+use Rattle.quiet.specs.Watching.{passed, watched}
 use Rattle.quiet.specs.declared.longest.Watch.{Watch}
 use Rattle.quiet.proofs.Passed.{leaf_first, watched_append, watched_since}
 
@@ -23,7 +23,7 @@ leaf_visited {len} {x} {t} l v q =
 module _ {w : List ℕ} {levels len : ℕ} {f : Fork} {t : Tree} (p : Parts w levels len f t) (v : Watch) {first : Watch}
     (a : first ≡ watched v (marks p.left.tree)) where
   -- the left child's marks add no more quiet frames than they are
-  pub left_since : first.since ≤ v.since + f.left_total
+  pub left_since : passed first ≤ passed v + f.left_total
   left_since = rw a (omega (arith, watched_since v (marks p.left.tree), size_marks p.left.tree, p.left.total))
 
   pub fork_visited : {last : Watch} → last ≡ watched first (marks p.right.tree) → last ≡ watched v (marks t)

@@ -2,67 +2,69 @@
 ghost use Rattle.std.specs.Prelude.{true, ◌≡◌, ◌+◌, ◌^◌, ◌≤◌, ◌<◌, take};
 ghost use Rattle.model.specs.Limits.{levels};
 ghost use Rattle.model.specs.Marks as Marks;
-ghost use Rattle.model.specs.Tree.{Tree, marks, size};
+ghost use Rattle.model.specs.Tree.{marks};
 ghost use Rattle.model.specs.Word.{bits};
 ghost use Rattle.bits.specs.Leaf.{bits_of};
-ghost use Rattle.pool.specs.Layout.{Rooted};
 ghost use Rattle.tree.specs.TreeAt.{TreeAt};
-ghost use Rattle.quiet.specs.Watching.{later, step, watched};
+ghost use Rattle.quiet.specs.Watching.{later, passed, step, watched};
 
 use bits::{Leaf, WORD_BITS};
 use pool::{LEVELS, TreeNode, leaf_or_fork};
+use tree::Root;
 
-// How far the visit has come: whether a strike was met, how many quiet frames have passed since the last one, and the
-// longest quiet between two strikes so far.
-#[derive(Clone, Copy)]
+// How far the visit has come: how many quiet frames have passed since the last strike, once one was met, and the
+// longest quiet between two strikes so far. That the count fits depends on how many marks still come, so each step asks
+// it.
+#[derive(Clone, Copy, Default)]
 struct Watch {
-    struck: bool,
-    since: u64,
+    since: Option<u64>,
     longest: u64,
+}
+
+// After so many quiet frames more.
+fn after_quiet(watch: Watch, quiet: u64) -> Watch
+    requires { passed watch + quiet < 2 ^ 64 }
+    ensures { result ≡ later quiet watch }
+{
+    Watch {
+        since: watch.since.map(|since| since + quiet),
+        ..watch
+    }
 }
 
 // After so many quiet frames more and a strike.
 fn after_strike(watch: Watch, quiet: u64) -> Watch
-    requires { watch.since + quiet < 2 ^ 64 }
+    requires { passed watch + quiet < 2 ^ 64 }
     ensures { result ≡ step (later quiet watch) true }
 {
-    let since = watch.since + quiet;
-    if watch.struck && watch.longest < since {
-        return Watch {
-            struck: true,
-            since: 0,
-            longest: since,
-        };
-    }
+    let longest = match watch.since {
+        Some(since) => watch.longest.max(since + quiet),
+        None => watch.longest,
+    };
     Watch {
-        struck: true,
-        since: 0,
-        longest: watch.longest,
+        since: Some(0),
+        longest,
     }
 }
 
 // After the lowest bits of a word, so many. The zeros below its lowest one are the quiet frames before the next strike;
 // the ones from there on are strikes with no quiet frame between them, so that all but the first change nothing.
 fn after_word(watch: Watch, word: u64, length: u64) -> Watch
-    requires { (length ≤ 64) × (watch.since + length < 2 ^ 64) }
+    requires { (length ≤ 64) × (passed watch + length < 2 ^ 64) }
     ensures { result ≡ watched watch (bits length word) }
 {
     let mut now = watch;
     let mut rest = word;
     let mut left = length;
     loop {
-        let quiet = u64::trailing_zeros(rest) as u64;
+        let quiet = rest.trailing_zeros() as u64;
         if left <= quiet {
-            return Watch {
-                struck: now.struck,
-                since: now.since + left,
-                longest: now.longest,
-            };
+            return after_quiet(now, left);
         }
         now = after_strike(now, quiet);
         let high = rest >> quiet;
         left -= quiet;
-        let run = u64::trailing_zeros(!high) as u64;
+        let run = (!high).trailing_zeros() as u64;
         if left <= run {
             return now;
         }
@@ -73,7 +75,7 @@ fn after_word(watch: Watch, word: u64, length: u64) -> Watch
 
 // After the first marks of a leaf, so many.
 fn after_leaf(watch: Watch, leaf: Leaf, length: u64) -> Watch
-    requires { (length ≤ 128) × (watch.since + length < 2 ^ 64) }
+    requires { (length ≤ 128) × (passed watch + length < 2 ^ 64) }
     ensures { result ≡ watched watch (take length (bits_of leaf)) }
 {
     if length < WORD_BITS {
@@ -83,34 +85,26 @@ fn after_leaf(watch: Watch, leaf: Leaf, length: u64) -> Watch
     after_word(first, leaf.high, length - WORD_BITS)
 }
 
-// After the marks of the tree at n, which holds `length`.
-fn after_tree(nodes: &[u64], n: u64, length: u64, watch: Watch, levels: u64) -> Watch
-    requires { TreeAt nodes.now n levels length × (watch.since + length < 2 ^ 64) }
-    ensures { (s : TreeAt nodes.now n levels length) → result ≡ watched watch (marks s.tree) }
+// After the marks of a tree.
+fn after_tree(nodes: &[u64], root: Root, watch: Watch, levels: u64) -> Watch
+    requires { TreeAt nodes.now root levels × (passed watch + root.length < 2 ^ 64) }
+    ensures { (s : TreeAt nodes.now root levels) → result ≡ watched watch (marks s.tree) }
 {
-    match leaf_or_fork(nodes, n) {
-        TreeNode::Leaf(leaf) => after_leaf(watch, leaf, length),
+    match leaf_or_fork(nodes, root.node) {
+        TreeNode::Leaf(leaf) => after_leaf(watch, leaf, root.length),
         TreeNode::Fork(fork) => {
             let below = levels - 1;
-            let left = fork.left_total;
-            let first = after_tree(nodes, fork.left, left, watch, below);
-            after_tree(nodes, fork.right, length - left, first, below)
+            let (left, right) = root.children(fork);
+            let first = after_tree(nodes, left, watch, below);
+            after_tree(nodes, right, first, below)
         }
     }
 }
 
-// The longest quiet between two neighbouring strikes of the tree at `root`, which holds `length` marks; 0 with fewer
-// than two strikes.
-pub fn longest_quiet(nodes: &[u64], root: u64, length: u64) -> u64
-    requires { (t : Tree) × Rooted nodes.now root levels t × (size t ≡ length) }
-    ensures { (t : Tree) → Rooted nodes.now root levels t → size t ≡ length
-        → result ≡ Marks.longest_quiet (marks t) }
+// The longest quiet between two neighbouring strikes of a tree; 0 with fewer than two strikes.
+pub fn longest_quiet(nodes: &[u64], root: Root) -> u64
+    requires { TreeAt nodes.now root levels }
+    ensures { (s : TreeAt nodes.now root levels) → result ≡ Marks.longest_quiet (marks s.tree) }
 {
-    let start = Watch {
-        struck: false,
-        since: 0,
-        longest: 0,
-    };
-    let end = after_tree(nodes, root, length, start, LEVELS);
-    end.longest
+    after_tree(nodes, root, Watch::default(), LEVELS).longest
 }

@@ -1,13 +1,11 @@
 -- A pool that stands, with the trailer that was read: what an order may assume of its nodes, and that the pool as it is
 -- afterwards stands in the words that are left.
-use Prim.Native.Nat.{ℕ, suc, ◌-◌, ◌*◌, ◌^◌, ◌≤◌, ◌<◌}
+use Prim.Native.Nat.{ℕ, suc, ◌*◌, ◌^◌, ◌≤◌, ◌<◌}
 use native.Mathlib.Omega.{arith}
-use borrow.Rule.Slice.PartMut.{put_mid}
 use mathlib.Core.Path.{◌≡◌, sym, ap, ◌∙◌}
 use mathlib.Core.Bool.{Bool, true}
 use mathlib.Core.List.{List, [], ◌∷◌, ◌++◌, Memᴰ}
-use lib.ListN.{length, take, drop, get_or, length-drop}
-use lib.Seq.{take_all}
+use lib.ListN.{length, take, drop, get_or}
 use lib.Dec.{leb}
 use Rattle.model.specs.Pool.{Pool, numbers_from, two_free}
 use Rattle.model.specs.Sound.{Distinct, Sound, all_numbers}
@@ -25,30 +23,28 @@ use Rattle.serve.proofs.Orderly.{after_sound, after_still, after_top}
 use Rattle.window.specs.Layout.{Stands, trailer_of, trailer_in}
 use Rattle.run.specs.Orders.{Served, after}
 use Rattle.window.specs.declared.trailer.Trailer.{Trailer}
-use Rattle.window.proofs.Builds.{put_behind, stands_with}
+use Rattle.window.proofs.Builds.{stands_with}
 use Rattle.window.proofs.OneState.{nodes_length, stands_last, stands_length, stands_nodes, stands_root, stands_rooted}
 
 -- what a trailer says of a pool of n nodes
 pub record Known (n : ℕ) (p : Pool) (t : Trailer) : Type 0 where
-  pub root : t.root ≡ top p.tree
-  pub total : t.length ≡ size p.tree
-  pub first : t.chain.first ≡ first_of n p.free
-  pub count : t.chain.count ≡ length p.free
+  pub root : t.held.tree.node ≡ top p.tree
+  pub total : t.held.tree.length ≡ size p.tree
+  pub first : t.held.chain.first ≡ first_of n p.free
+  pub count : t.held.chain.count ≡ length p.free
   pub nodes : t.nodes ≡ n
   pub last : t.last ≡ 0
 
 module _ {ws : List ℕ} {n : ℕ} {p : Pool} (s : Stands ws n p) where
   -- the trailer that is read says so of the pool that stands
-  pub known : (t : Trailer) → t ≡ trailer_in (take (length ws - n * 6) (drop (n * 6) ws)) → Known n p t
+  pub known : (t : Trailer) → t ≡ trailer_in (drop (n * 6) ws) → Known n p t
   unfolding trailer_of
-  known t e =
-      let same : t ≡ trailer_in (drop (n * 6) ws) =
-      e ∙ ap trailer_in (take_all (length ws - n * 6) (drop (n * 6) ws) (omega (arith, length-drop (n * 6) ws))) in
+  known t same =
       record {
-        root = ap (λ (x : Trailer). x.root) same ∙ stands_root ws n s.counted p s;
-        total = ap (λ (x : Trailer). x.length) same ∙ stands_length ws n s.counted p s;
-        first = ap (λ (x : Trailer). x.chain.first) same ∙ ap (λ (v : List ℕ). get_or v 2 0) s.trailer;
-        count = ap (λ (x : Trailer). x.chain.count) same ∙ ap (λ (v : List ℕ). get_or v 3 0) s.trailer;
+        root = ap (λ (x : Trailer). x.held.tree.node) same ∙ stands_root ws n s.counted p s;
+        total = ap (λ (x : Trailer). x.held.tree.length) same ∙ stands_length ws n s.counted p s;
+        first = ap (λ (x : Trailer). x.held.chain.first) same ∙ ap (λ (v : List ℕ). get_or v 2 0) s.trailer;
+        count = ap (λ (x : Trailer). x.held.chain.count) same ∙ ap (λ (v : List ℕ). get_or v 3 0) s.trailer;
         nodes = ap (λ (x : Trailer). x.nodes) same ∙ stands_nodes ws n s.counted p s;
         last = ap (λ (x : Trailer). x.last) same ∙ stands_last ws n s.counted p s;
       }
@@ -74,8 +70,8 @@ module _ {ws : List ℕ} {n : ℕ} {p : Pool} (s : Stands ws n p) where
 
   -- ---- what an order may assume
 
-  pub to_serve : (t : Trailer) (may : Bool) → Known n p t → (may ≡ true → 2 ≤ t.chain.count)
-      → ToServe (take (n * 6) ws) n (record { root = t.root; length = t.length; chain = t.chain }) may p
+  pub to_serve : (t : Trailer) (may : Bool) → Known n p t → (may ≡ true → 2 ≤ t.held.chain.count)
+      → ToServe (take (n * 6) ws) n t.held may p
   to_serve t may k two = record {
     site = record {
       rooted = rw k.root (stands_rooted ws n p s);
@@ -95,7 +91,7 @@ module _ {ws : List ℕ} {n : ℕ} {p : Pool} (s : Stands ws n p) where
 
   -- the rule that the code asks is the window's
   pub ruled : {w w' : List ℕ} {may : Bool} {o : Asked} {r : Serve.Served} (t : Trailer) → Known n p t → Serves w w' n may o p r
-      → may ≡ leb 2 t.chain.count → Serves w w' n (two_free p) o p r
+      → may ≡ leb 2 t.held.chain.count → Serves w w' n (two_free p) o p r
   unfolding two_free
   ruled t k x e = let same : _ = e ∙ ap (leb 2) k.count in rw same at x
 
@@ -113,22 +109,20 @@ module _ {ws : List ℕ} {n : ℕ} {p : Pool} (s : Stands ws n p) {w' : List ℕ
   placed_behind six e = stands_with w' six n (after o p) laid sound s.counted.some s.counted.most e
 
   -- as many marks as before: the trailer is that of before
-  pub served_still : (t : Trailer) → Known n p t → r.length ≡ t.length → Served (w' ++ drop (n * 6) ws) n o p r.answer
+  pub served_still : (t : Trailer) → Known n p t → r.held.tree.length ≡ t.held.tree.length → Served (w' ++ drop (n * 6) ws) n o p r.answer
   served_still t k e =
       let same : after o p ≡ p = after_still (two_free p) o p (x.total ∙ e ∙ k.total) in
       record { answered = x.answered; stands = placed_behind (drop (n * 6) ws) (s.trailer ∙ ap (trailer_of n) (sym same)) }
 
-  -- the trailer is put over the old one, behind the nodes that were lent
+  -- a new trailer is put behind the nodes
   pub served_moved : (t : Trailer) (six : List ℕ) → Known n p t
-      → six ≡ t.root ∷ r.length ∷ r.chain.first ∷ r.chain.count ∷ t.nodes ∷ t.last ∷ []
-      → Served (put_mid (n * 6) (length (w' ++ drop (n * 6) ws) - n * 6) (w' ++ drop (n * 6) ws) six) n o p r.answer
+      → six ≡ r.held.tree.node ∷ r.held.tree.length ∷ r.held.chain.first ∷ r.held.chain.count ∷ t.nodes ∷ t.last ∷ []
+      → Served (w' ++ six) n o p r.answer
   unfolding trailer_of
   served_moved t six k is =
-      let root : t.root ≡ top (after o p).tree = k.root ∙ sym (after_top (two_free p) o p) in
+      let root : r.held.tree.node ≡ top (after o p).tree = sym x.root ∙ sym (after_top (two_free p) o p) in
       record {
         answered = x.answered;
         stands =
-            rw (put_behind w' (drop (n * 6) ws) six (n * 6) laid.words)
-            (placed_behind six
-            (is ∙ (λ j. root j ∷ sym x.total j ∷ sym x.first j ∷ sym x.count j ∷ k.nodes j ∷ k.last j ∷ [])));
+            placed_behind six (is ∙ (λ j. root j ∷ sym x.total j ∷ sym x.first j ∷ sym x.count j ∷ k.nodes j ∷ k.last j ∷ []));
       }

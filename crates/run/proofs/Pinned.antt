@@ -6,7 +6,7 @@ use mathlib.Core.Path.{◌≡◌, sym, ◌∙◌}
 use mathlib.Core.List.{List}
 use lib.ListN.{length}
 use Rattle.model.proofs.Cases.{by_ltb}
-use Rattle.order.specs.declared.answer.Answer.{Answer}
+use Rattle.order.specs.Answer.{Answer}
 use Rattle.window.specs.Layout.{Counted}
 use Rattle.window.proofs.Pinned.{Likely, answer_stable, cases, one_layout, words_stable}
 use Rattle.run.specs.Orders.{orders_of, after_all}

@@ -2,11 +2,10 @@
 -- may be taken where two are free.
 use Rattle.std.specs.Prelude.{ℕ, ◌≡◌, Bool, List, [], ◌∷◌}
 use Rattle.model.specs.Pool.{Pool, two_free}
-use Rattle.order.specs.Answer.{code, value}
+use Rattle.order.specs.Answer.{Answer, code, value}
 use Rattle.serve.specs.Orders as Serve
 use Rattle.order.specs.Asked.{Asked, asks}
 use Rattle.order.specs.Plain.{list_answer, list_after}
-use Rattle.order.specs.declared.answer.Answer.{Answer}
 use Rattle.window.specs.Layout.{Stands}
 
 -- three words for each order; a part of one asks nothing

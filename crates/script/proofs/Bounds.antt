@@ -3,14 +3,14 @@ use Prim.Native.Nat.{ℕ, ◌+◌, ◌*◌, ◌≤◌}
 use native.Mathlib.Omega.{arith}
 use mathlib.Core.Path.{◌≡◌, ap}
 use mathlib.Core.List.{List, [], ◌∷◌, ◌++◌}
-use mathlib.Core.Option.{Option, none, some}
+use Rattle.std.specs.Prelude.{Option, None, Some, Err}
 use lib.ListN.{length, drop, length-append}
 use Rattle.model.specs.Tree.{marks, size}
 use Rattle.model.specs.Word.{words_for}
 use Rattle.model.proofs.Cases.{by_leb, by_ltb}
 use Rattle.model.proofs.Words.{words_length}
 use Rattle.order.specs.Answer.{code, value}
-use Rattle.order.specs.declared.answer.Answer.TheVariants.{Malformed}
+use Rattle.order.specs.declared.answer.Refusal.TheVariants.{Malformed}
 use Rattle.grammar.specs.Lines.{Wanted, dumping, loading, ordering, pooling, wanted}
 use Rattle.text.specs.Text.{newline}
 use Rattle.script.specs.Prints.{State, answered, damaged, holding, line_text, most_input, nothing, says, shown, too_long, words_text}
@@ -42,8 +42,8 @@ few_shown dumping (damaged m) ws n h = omega arith
 
 says_length : (w : Option Wanted) (s : State) (ws : List ℕ) (n : ℕ) → Keeps ws n s → length (says w s) ≤ 17408
 unfolding says
-says_length none s ws n h = omega (arith, line_length (code Malformed) (value Malformed) [])
-says_length (some w) s ws n h = omega (arith, line_length (code (answered w s)) (value (answered w s)) (shown w s), few_shown w s ws n h)
+says_length None s ws n h = omega (arith, line_length (code (Err Malformed)) (value (Err Malformed)) [])
+says_length (Some w) s ws n h = omega (arith, line_length (code (answered w s)) (value (answered w s)) (shown w s), few_shown w s ws n h)
 
 module _ (input : List ℕ) (at : ℕ) (ws : List ℕ) (n : ℕ) (out : List ℕ) (r : Next) (ws' out' : List ℕ) (whole : length ws ≡ 6144)
     (t : LinePlayed input at (desk ws n out) r ws' out') where

@@ -4,7 +4,7 @@ use native.Mathlib.Omega.{arith}
 use mathlib.Core.Path.{◌≡◌, refl, sym, ap, ap₂, ◌∙◌}
 use mathlib.Core.Bool.{true, false}
 use mathlib.Core.List.{List, [], ◌∷◌, ◌++◌}
-use mathlib.Core.Option.{Option, none, some}
+use Rattle.std.specs.Prelude.{Option, None, Some, Ok, Err, unwrap_or}
 use lib.ListN.{length, take, drop, get_or, take-append-drop}
 use lib.Seq.{take_at, drop_at, length-take-le}
 use Rattle.model.specs.Build.{build, leaf_count}
@@ -18,20 +18,20 @@ use Rattle.model.proofs.Cases.{by_leb, by_test}
 use Rattle.model.proofs.Depth.{node_total}
 use Rattle.model.proofs.Floor.{sound_nodes, whole_sized}
 use Rattle.model.proofs.Words.{words_length}
-use Rattle.order.specs.Answer.{code, value}
+use Rattle.order.specs.Answer.{Answer, code, value}
 use Rattle.run.specs.Runs.{Ran}
 use Rattle.window.specs.Calls.{BuildsTo, Checked, Damaged, NoPool, Valued}
 use Rattle.window.specs.Layout.{Counted, Stands}
 use Rattle.order.specs.Asked.{Asked, asks}
 use Rattle.run.specs.Orders.{after, answer, answer_words, answers, after_all, orders_of}
-use Rattle.order.specs.declared.answer.Answer.{Answer}
-use Rattle.order.specs.declared.answer.Answer.TheVariants.{Done, NotSound, WrongSize}
+use Rattle.order.specs.declared.answer.Refusal.{Refusal}
+use Rattle.order.specs.declared.answer.Refusal.TheVariants.{NotSound, WrongSize}
 use Rattle.serve.proofs.Orderly.{never}
 use Rattle.window.proofs.OneState.{well_at}
 use Rattle.window.proofs.Pinned.{Likely, one_layout}
 use Rattle.grammar.specs.Lines.{Wanted, dumping, loading, ordering, pooling}
 use Rattle.script.specs.Prints.{State, answered, built, damaged, holding, leaves, left_by, load_answer, loaded, nothing, now_holding, shown, sized}
-use Rattle.script.specs.Playing.{Keeps, extent_of}
+use Rattle.script.specs.Playing.{Keeps, extent_of, pool_extent}
 
 -- a line that asks for w was answered r, and the words of the pool are ws' now, of n' nodes
 pub record Did (w : Wanted) (s : State) (ws : List ℕ) (n : ℕ) (r : Answer) (n' : ℕ) (ws' : List ℕ) : Type 0 where
@@ -64,18 +64,52 @@ pub extent_none : (n : ℕ) → sized n ≡ false → extent_of n ≡ 0
 unfolding extent_of
 extent_none n e = rw (extent_of, e) refl
 
--- no words are needed exactly where no pool has so many nodes
-pub no_extent : (n : ℕ) → extent_of n ≡ 0 → sized n ≡ false
-no_extent n z = by_test (sized n) (λ e. absurd (omega (arith, extent_sized n e))) (λ e. e)
+-- the words of a pool of so many nodes, and of one that no pool has
+pub extent_some : (n : ℕ) → sized n ≡ true → {k : ℕ} → k ≡ suc n * 6 → Some k ≡ pool_extent n
+unfolding pool_extent
+extent_some n e {k} h = rw (pool_extent, e) (ap {B = Option ℕ} Some (h ∙ sym (extent_sized n e)))
 
-pub some_extent : (n : ℕ) → (extent_of n ≡ 0 → ⊥) → sized n ≡ true
-some_extent n z = by_test (sized n) (λ e. e) (λ e. absurd (z (extent_none n e)))
+pub extent_not : (n : ℕ) → sized n ≡ false → None ≡ pool_extent n
+unfolding pool_extent
+extent_not n e = rw (pool_extent, e)
+
+-- and back
+pub extent_is : (n : ℕ) {k : ℕ} → Some k ≡ pool_extent n → (sized n ≡ true) × (k ≡ extent_of n)
+unfolding pool_extent
+extent_is n {k} h =
+    by_test (sized n)
+    (λ e. (e, let same : Some k ≡ Some (extent_of n) = rw (pool_extent, e) at h in cc))
+    (λ e. absurd (let never : Some k ≡ None = rw (pool_extent, e) at h in let z : ◌≡◌ {A = ℕ} 0 1 = cc in omega arith))
+
+pub no_extent : (n : ℕ) → None ≡ pool_extent n → sized n ≡ false
+unfolding pool_extent
+no_extent n h =
+    by_test (sized n)
+    (λ e. absurd (let never : None ≡ Some (extent_of n) = rw (pool_extent, e) at h in let z : ◌≡◌ {A = ℕ} 0 1 = cc in omega arith))
+    (λ e. e)
 
 pub extent_most : (n : ℕ) → extent_of n ≤ 6144
 extent_most n =
     by_test (sized n)
     (λ e. let b = sized_bounds n e in omega (arith, extent_sized n e))
     (λ e. omega (arith, extent_none n e))
+
+-- the first k words are in use, none where no pool has so many nodes
+pub record InUse (n : ℕ) (ws : List ℕ) (k : ℕ) : Type 0 where
+  pub is : k ≡ extent_of n
+  pub within : k ≤ 6144
+  pub as_long : k ≡ length (take k ws)
+
+used : (n : ℕ) {k : ℕ} (ws : List ℕ) → k ≡ extent_of n → length ws ≡ 6144 → InUse n ws k
+used n {k} ws e l = let within : k ≤ 6144 = omega (arith, extent_most n) in
+    record { is = e; within = within; as_long = sym (length-take-le k ws (omega (arith, within))) }
+
+pub some_in_use : (n : ℕ) {k : ℕ} (ws : List ℕ) → Some k ≡ pool_extent n → length ws ≡ 6144 → InUse n ws k
+some_in_use n ws h l = used n ws (extent_is n h).1 l
+
+pub in_use : (n : ℕ) {o : Option ℕ} {k : ℕ} (ws : List ℕ) → o ≡ pool_extent n → k ≡ unwrap_or o 0 → length ws ≡ 6144 → InUse n ws k
+in_use n {o = Some m} ws h e l = used n ws (e ∙ (extent_is n h).1) l
+in_use n {o = None} ws h e l = used n ws (e ∙ sym (extent_none n (no_extent n h))) l
 
 pub counted_in : (ws : List ℕ) (n : ℕ) → length ws ≡ 6144 → sized n ≡ true → Counted (take (extent_of n) ws) n
 counted_in ws n l e =
@@ -109,23 +143,23 @@ state_likely ws n {G} l go h =
 or_kept : (n : ℕ) (o : Option Pool) (s : State) {P : Type 0} → ((m : ℕ) (p : Pool) → now_holding n o s ≡ holding m p → P)
     → (now_holding n o s ≡ s → P) → P
 unfolding now_holding
-or_kept n (some p) s a b = a n p refl
-or_kept n none s a b = b refl
+or_kept n (Some p) s a b = a n p refl
+or_kept n None s a b = b refl
 
 pub settled : (w : Option Wanted) (s : State) {P : Type 0} → ((m : ℕ) (p : Pool) → leaves w s ≡ holding m p → P) → (leaves w s ≡ s → P) → P
 unfolding leaves left_by
-settled none s a b = b refl
-settled (some (pooling n)) s a b =
+settled None s a b = b refl
+settled (Some (pooling n)) s a b =
     by_test (sized n)
     (λ e. or_kept n (Pool.build n []) s (λ m p f. a m p (rw (left_by, e) f)) (λ f. b (rw (left_by, e) f)))
     (λ e. b (rw (left_by, e) refl))
-settled (some (loading len ws)) nothing a b = b refl
-settled (some (loading len ws)) (holding n p) a b = or_kept n _ (holding n p) a b
-settled (some (loading len ws)) (damaged n) a b = or_kept n _ (damaged n) a b
-settled (some (ordering o)) nothing a b = b refl
-settled (some (ordering o)) (holding n p) a b = a n _ refl
-settled (some (ordering o)) (damaged n) a b = b refl
-settled (some dumping) s a b = b refl
+settled (Some (loading len ws)) nothing a b = b refl
+settled (Some (loading len ws)) (holding n p) a b = or_kept n _ (holding n p) a b
+settled (Some (loading len ws)) (damaged n) a b = or_kept n _ (damaged n) a b
+settled (Some (ordering o)) nothing a b = b refl
+settled (Some (ordering o)) (holding n p) a b = a n _ refl
+settled (Some (ordering o)) (damaged n) a b = b refl
+settled (Some dumping) s a b = b refl
 
 -- ---- the words afterwards
 
@@ -210,11 +244,11 @@ load_made s ws n len words r vs h c a g b =
     made : len ≤ 64 * length words → answered (loading len words) s ≡ built len (Pool.build n (take len (marks_of words)))
         → left_by (loading len words) s ≡ now_holding n (Pool.build n (take len (marks_of words))) s
         → (o : Option Pool) → Pool.build n (take len (marks_of words)) ≡ o → Did (loading len words) s ws n r n (vs ++ drop (extent_of n) ws)
-    made m a g none e =
+    made m a g None e =
         let x = b.full n c m e in
         refused (loading len words) s ws n r (vs ++ drop (extent_of n) ws) h (x.0 ∙ sym (a ∙ ap (built len) e))
         (g ∙ ap (λ (o : Option Pool). now_holding n o s) e) (untouched ws vs (extent_of n) x.1)
-    made m a g (some q) e =
+    made m a g (Some q) e =
         let x = b.built n q c m e in
         taken (loading len words) s ws n r n vs q h (x.0 ∙ sym (a ∙ ap (built len) e)) (g ∙ ap (λ (o : Option Pool). now_holding n o s) e) x.1
 
@@ -233,23 +267,23 @@ load_did (damaged m) ws n len words r vs l h b =
 
 -- ---- a pool
 
-empty_made : (n : ℕ) → 1 ≤ n → (q : Pool) × (Pool.build n [] ≡ some q)
+empty_made : (n : ℕ) → 1 ≤ n → (q : Pool) × (Pool.build n [] ≡ Some q)
 unfolding Pool.build nodes_for leaf_count
 empty_made n h = by_leb 1 n (λ e g. (record { tree = build []; free = Pool.numbers_from 1 (n - 1) }, rw (Pool.build, e) refl))
     (λ e g. absurd (omega arith))
 
 pub pool_did : (s : State) (ws : List ℕ) (n m : ℕ) (r : Answer) (vs : List ℕ) → length ws ≡ 6144 → Keeps ws n s → sized m ≡ true
-    → BuildsTo (take (extent_of m) ws) [] 0 r vs → Did (pooling m) s ws n (Done m) m (vs ++ drop (extent_of m) ws)
+    → BuildsTo (take (extent_of m) ws) [] 0 r vs → Did (pooling m) s ws n (Ok m) m (vs ++ drop (extent_of m) ws)
 unfolding answered left_by now_holding marks_of
 pool_did s ws n m r vs l h z b =
     let q = empty_made m (sized_bounds m z).0 in
     let x = b.built m q.0 (counted_in ws m l z) (omega arith) q.1 in
-    taken (pooling m) s ws n (Done m) m vs q.0 h (rw (answered, z) refl) (rw (left_by, z) (ap (λ (o : Option Pool). now_holding m o s) q.1))
+    taken (pooling m) s ws n (Ok m) m vs q.0 h (rw (answered, z) refl) (rw (left_by, z) (ap (λ (o : Option Pool). now_holding m o s) q.1))
     x.1
 
-pub pool_refused : (s : State) (ws : List ℕ) (n m : ℕ) → Keeps ws n s → sized m ≡ false → Did (pooling m) s ws n WrongSize n ws
+pub pool_refused : (s : State) (ws : List ℕ) (n m : ℕ) → Keeps ws n s → sized m ≡ false → Did (pooling m) s ws n (Err WrongSize) n ws
 unfolding answered left_by
-pool_refused s ws n m h z = refused (pooling m) s ws n WrongSize ws h (rw (answered, z) refl) (rw (left_by, z) refl) refl
+pool_refused s ws n m h z = refused (pooling m) s ws n (Err WrongSize) ws h (rw (answered, z) refl) (rw (left_by, z) refl) refl
 
 -- ---- an order
 
@@ -257,16 +291,20 @@ pool_refused s ws n m h z = refused (pooling m) s ws n WrongSize ws h (rw (answe
 pub record Ordered (o : Asked) (s : State) (ws : List ℕ) (n : ℕ) (r : Answer) (ws' out' : List ℕ) : Type 0 where
   pub reply : Answer
   pub did : Did (ordering o) s ws n reply n ws'
-  pub refusal : (code r ≡ 0 → ⊥) → (code r ≡ code reply) × (value r ≡ value reply)
-  pub words : code r ≡ 0 → (get_or out' 0 0 ≡ code reply) × (get_or out' 1 0 ≡ value reply)
+  pub refusal : {x : Refusal} → r ≡ Err x → Err x ≡ reply
+  pub words : {v : ℕ} → r ≡ Ok v → (get_or out' 0 0 ≡ code reply) × (get_or out' 1 0 ≡ value reply)
 
-order_refused : (o : Asked) (s : State) (ws : List ℕ) (n : ℕ) (r x : Answer) (ws' out' : List ℕ) → r ≡ x → (code x ≡ 0 → ⊥)
-    → Did (ordering o) s ws n x n ws' → Ordered o s ws n r ws' out'
-order_refused o s ws n r x ws' out' e c d = record {
-  reply = x;
+-- no answer is both
+never_both : {v : ℕ} {x : Refusal} {A : Type 0} (r : Answer) → r ≡ Ok v → r ≡ Err x → A
+never_both {v = v} {x = x} r e f = absurd (let never : Ok v ≡ Err x = sym e ∙ f in let z : ◌≡◌ {A = ℕ} 0 1 = cc in omega arith)
+
+order_refused : (o : Asked) (s : State) (ws : List ℕ) (n : ℕ) (r : Answer) (y : Refusal) (ws' out' : List ℕ) → r ≡ Err y
+    → Did (ordering o) s ws n (Err y) n ws' → Ordered o s ws n r ws' out'
+order_refused o s ws n r y ws' out' e d = record {
+  reply = Err y;
   did = d;
-  refusal = λ _. (ap code e, ap value e);
-  words = λ z. absurd (c (sym (ap code e) ∙ z));
+  refusal = λ f. sym f ∙ e;
+  words = λ f. never_both r f e;
 }
 
 pub order_did : (s : State) (ws : List ℕ) (n a b c : ℕ) (out : List ℕ) (r : Answer) (vs out' : List ℕ) → length ws ≡ 6144 → length out ≡ 2
@@ -275,21 +313,22 @@ pub order_did : (s : State) (ws : List ℕ) (n a b c : ℕ) (out : List ℕ) (r 
 unfolding Keeps answered left_by code value answers after_all orders_of answer_words
 order_did nothing ws n a b c out r vs out' l k h d =
     let x = d.no_pool (none_in ws n h) in
-    order_refused (asks a b c) nothing ws n r WrongSize _ out' x.0 (λ z. omega arith)
-    (refused (ordering (asks a b c)) nothing ws n WrongSize (vs ++ drop (extent_of n) ws) h refl refl (untouched ws vs (extent_of n) x.1.pool))
+    order_refused (asks a b c) nothing ws n r WrongSize _ out' x.0
+    (refused (ordering (asks a b c)) nothing ws n (Err WrongSize) (vs ++ drop (extent_of n) ws) h refl refl (untouched ws vs (extent_of n) x.1.pool))
 order_did (holding m p) ws n a b c out r vs out' l k h d =
     let x = d.served n p h.1 refl (omega (arith, k)) in
     record {
       reply = answer (asks a b c) p;
       did = taken (ordering (asks a b c)) (holding m p) ws n (answer (asks a b c) p) n vs (after (asks a b c) p) h refl
           (ap (λ (k : ℕ). holding k (after (asks a b c) p)) h.0) x.1;
-      refusal = λ z. absurd (z (ap code x.0));
-      words = λ z. (ap (λ (us : List ℕ). get_or us 0 0) x.2, ap (λ (us : List ℕ). get_or us 1 0) x.2);
+      refusal = λ f. never_both r x.0 f;
+      words = λ _. (ap (λ (us : List ℕ). get_or us 0 0) x.2, ap (λ (us : List ℕ). get_or us 1 0) x.2);
     }
 order_did (damaged m) ws n a b c out r vs out' l k h d =
     let x = d.damaged (record { count = (n, counted_in ws n l h.1); none = h.2 }) refl (omega (arith, k)) in
-    order_refused (asks a b c) (damaged m) ws n r NotSound _ out' x.0 (λ z. omega arith)
-    (refused (ordering (asks a b c)) (damaged m) ws n NotSound (vs ++ drop (extent_of n) ws) h refl refl (untouched ws vs (extent_of n) x.1.pool))
+    order_refused (asks a b c) (damaged m) ws n r NotSound _ out' x.0
+    (refused (ordering (asks a b c)) (damaged m) ws n (Err NotSound) (vs ++ drop (extent_of n) ws) h refl refl
+    (untouched ws vs (extent_of n) x.1.pool))
 
 -- ---- a dump
 

@@ -4,9 +4,9 @@ use native.Mathlib.Omega.{arith}
 use mathlib.Core.Path.{◌≡◌, refl, sym, ap, ap₂, ◌∙◌}
 use mathlib.Core.List.{List, [], ◌∷◌}
 use lib.Dec.{eqb}
-use lib.ListN.{length, take, drop, drop_of_length-le}
-use lib.Seq.{drop-drop, drop-length, take_all, take-length}
-use Rattle.text.specs.Bytes.{index_of, slice}
+use lib.ListN.{length, take, drop, drop_of_length-le, length-drop}
+use lib.Seq.{drop-drop, take_all}
+use Rattle.text.specs.Bytes.{index_of}
 use Rattle.model.proofs.Cases.{by_ltb, by_test}
 use Rattle.text.proofs.Cutting.{pieces_more, pieces_one}
 use Rattle.text.specs.Text.{closed, lines}
@@ -27,34 +27,6 @@ pub after_is : (bs : List ℕ) → after_line bs ≡ drop (suc (index_of newline
 unfolding after_line index_of
 after_is [] = refl
 after_is (b ∷ bs) = by_test (eqb b newline) (λ e. rw (after_line, index_of, e) refl) (λ e. rw (after_line, index_of, e) (after_is bs))
-
--- it does not end before it begins
-pub index_past : (at i e : ℕ) → e ≡ at + i → at ≤ e
-index_past at i e h = omega arith
-
-module _ (input : List ℕ) (at e : ℕ) (ends : e ≡ at + index_of newline (slice at (length input) input)) where
-  rest_slice : slice at (length input) input ≡ drop at input
-  unfolding slice
-  rest_slice = ap (drop at) (take-length input)
-
-  index : index_of newline (drop at input) ≡ e - at
-  index = let i = ap (index_of newline) rest_slice in omega arith
-
-  -- what stands between is the line
-  pub line_is : take (e - at) (drop at input) ≡ first_line (drop at input)
-  line_is = sym (first_is (drop at input) ∙ ap (λ (k : ℕ). take k (drop at input)) index)
-
-  -- and what stands after it is the rest
-  pub rest_is : at ≤ e → drop (e + 1) input ≡ after_line (drop at input)
-  rest_is h =
-      let there : at + suc (e - at) ≡ e + 1 = omega arith in
-      sym
-      (after_is (drop at input) ∙ ap (λ (k : ℕ). drop (suc k) (drop at input)) index ∙ drop-drop (suc (e - at)) at input
-      ∙ ap (λ (k : ℕ). drop k input) there)
-
-  pub no_rest : at ≤ e → e ≡ length input → drop e input ≡ after_line (drop at input)
-  no_rest h all =
-      ap (λ (k : ℕ). drop k input) all ∙ drop-length input ∙ sym (drop_of_length-le input {i = e + 1} (omega arith)) ∙ rest_is h
 
 -- ---- the lines of an input
 
@@ -116,13 +88,22 @@ long_line input at ws n out end out' h g t = record {
   line = λ _ k _ _. absurd (omega arith);
 }
 
-pub next_line : (input : List ℕ) (at e : ℕ) (ws : List ℕ) (n : ℕ) (out : List ℕ) (next n' end : ℕ) (ws' out' : List ℕ) → at < length input
-    → length input ≤ most_input
-    → e ≡ at + index_of newline (slice at (length input) input) → at < next → next ≤ length input → drop next input ≡ after_line (drop at input)
-    → ((s : State) → Keeps ws n s → Played (wanted (take (e - at) (drop at input))) s (desk ws n out) (desk ws' n' out') end)
-    → LinePlayed input at (desk ws n out) (record { at = next; nodes = n'; end = end }) ws' out'
-next_line input at e ws n out next n' end ws' out' h g ends less within rest p = record {
+pub next_line : (input : List ℕ) (at : ℕ) (rest : List ℕ) (taken : ℕ) (line : List ℕ) (ws : List ℕ) (n : ℕ) (out : List ℕ) (n' end : ℕ)
+    (ws' out' : List ℕ) → at < length input → length input ≤ most_input → rest ≡ drop at input → 0 < taken → taken ≤ length rest
+    → line ≡ first_line rest → drop taken rest ≡ after_line rest
+    → ((s : State) → Keeps ws n s → Played (wanted line) s (desk ws n out) (desk ws' n' out') end)
+    → LinePlayed input at (desk ws n out) (record { at = at + taken; nodes = n'; end = end }) ws' out'
+next_line input at rest taken line ws n out n' end ws' out' h g from some within first after p = record {
   ended = λ k. absurd (omega arith);
   long = λ _ k. absurd (omega arith);
-  line = λ _ _ s holds. (less, within, rest, rw (line_is input at e ends) at (p s holds));
+  line = λ _ _ s holds. (
+    omega arith,
+    omega (arith, length-drop at input, ap length from),
+    sym (drop-drop taken at input) ∙ rw from at after,
+    rw (first, from) at (p s holds),
+  );
 }
+
+-- all that stands from a place on
+pub rest_is : (input : List ℕ) (at : ℕ) → take (length input - at) (drop at input) ≡ drop at input
+rest_is input at = take_all (length input - at) (drop at input) (omega (arith, length-drop at input))

@@ -5,18 +5,15 @@ use native.Mathlib.Omega.{arith}
 use mathlib.Core.Path.{◌≡◌, refl, sym, ap, ap₂, ◌∙◌}
 use mathlib.Core.List.{List, [], ◌∷◌, ◌++◌, append_assoc, append-nil}
 use lib.ListN.{length, take, get_or, length-append}
-use lib.Seq.{length-take-le, take-suc}
+use lib.Seq.{length-take-le, take_all, take-suc}
 use Rattle.text.specs.Text.{decimal_text, hex_text, newline, over, space}
-use Rattle.text.proofs.Putting.{decimal_length, hex_length, over_behind, over_length, over_none}
+use Rattle.text.proofs.Putting.{decimal_length, hex_length, over_behind, over_length}
 use Rattle.script.specs.Prints.{line_text, words_text}
 
 -- a text was put at a place, and ends there
 pub record Put (at : ℕ) (ts bs : List ℕ) (end : ℕ) (bs' : List ℕ) : Type 0 where
   pub ends : end ≡ at + length ts
   pub bytes : bs' ≡ over at ts bs
-
-pub put_none : (at : ℕ) (bs : List ℕ) → Put at [] bs at bs
-put_none at bs = record { ends = omega arith; bytes = sym (over_none at bs) }
 
 pub put_length : (at : ℕ) (a bs : List ℕ) (mid : ℕ) (bs' : List ℕ) → Put at a bs mid bs' → at + length a ≤ length bs → length bs' ≡ length bs
 put_length at a bs mid bs' p h = ap length p.bytes ∙ over_length at a bs h
@@ -80,74 +77,58 @@ one_more i ws h =
     ap words_text (take-suc ws i 0 h) ∙ words_text_append (take i ws) (get_or ws i 0 ∷ [])
     ∙ ap (λ (xs : List ℕ). words_text (take i ws) ++ xs) (append-nil (space ∷ hex_text (get_or ws i 0)))
 
-module _ (at i : ℕ) (ws out : List ℕ) (e₁ : ℕ) (out₁ : List ℕ) (here : i < length ws) (room : at + 17 * suc i ≤ length out)
-    (p : Put at (words_text (take i ws)) out e₁ out₁) where
-  so_far : (e₁ ≡ at + 17 * i) × (length out₁ ≡ length out)
-  so_far =
-      let l = words_text_length (take i ws) in
-      let k = length-take-le i ws (omega arith) in
-      (omega (arith, p.ends), put_length at (words_text (take i ws)) out e₁ out₁ p (omega arith))
+-- a line so far: its answer, and the first i of its words
+abbrev pub Begun : (c v : ℕ) (ws : List ℕ) (i : ℕ) (out : List ℕ) (end : ℕ) (out' : List ℕ) → Type 0
+Begun c v ws i out end out' = Put 0 (two_text c v ++ words_text (take i ws)) out end out'
 
-  -- there is room for a space
-  pub before_room : e₁ < length out₁
-  before_room = let k = so_far in omega arith
+-- there is no word yet
+pub begun_none : (c v : ℕ) (ws out : List ℕ) (end : ℕ) (out' : List ℕ) → Put 0 (two_text c v) out end out' → Begun c v ws 0 out end out'
+unfolding words_text
+begun_none c v ws out end out' p = rw (append-nil (two_text c v)) p
 
-  module _ (e₂ : ℕ) (out₂ : List ℕ) (q : Put e₁ (space ∷ []) out₁ e₂ out₂) where
+module _ (c v : ℕ) (ws : List ℕ) (i : ℕ) (out : List ℕ) (e₁ : ℕ) (out₁ : List ℕ) (room : 42 + 17 * length ws ≤ length out)
+    (p : Begun c v ws i out e₁ out₁) where
+  long : i ≤ length ws → length (two_text c v ++ words_text (take i ws)) ≤ 41 + 17 * i
+  long h =
+      omega (
+        arith,
+        length-append (two_text c v) (words_text (take i ws)),
+        two_length c v,
+        words_text_length (take i ws),
+        length-take-le i ws h,
+      )
+
+  so_far : i ≤ length ws → (e₁ ≤ 41 + 17 * i) × (length out₁ ≡ length out)
+  so_far h = (omega (arith, p.ends, long h), put_length 0 (two_text c v ++ words_text (take i ws)) out e₁ out₁ p (omega (arith, long h)))
+
+  -- there is room for a space, or for the end of the line
+  pub byte_room : i ≤ length ws → e₁ < length out₁
+  byte_room h = let k = so_far h in omega arith
+
+  module _ (here : i < length ws) (e₂ : ℕ) (out₂ : List ℕ) (q : Put e₁ (space ∷ []) out₁ e₂ out₂) where
     -- and for a word
     pub word_room : e₂ + 16 ≤ length out₂
     word_room =
-        let k = so_far in
+        let k = so_far (omega arith) in
         let j = put_length e₁ (space ∷ []) out₁ e₂ out₂ q (omega arith) in
         omega (arith, q.ends)
 
-    pub word_put : (e₃ : ℕ) (out₃ : List ℕ) → Put e₂ (hex_text (get_or ws i 0)) out₂ e₃ out₃ → Put at (words_text (take (suc i) ws)) out e₃ out₃
+    pub word_put : (e₃ : ℕ) (out₃ : List ℕ) → Put e₂ (hex_text (get_or ws i 0)) out₂ e₃ out₃ → Begun c v ws (suc i) out e₃ out₃
     word_put e₃ out₃ r =
-        let k = so_far in
+        let k = so_far (omega arith) in
+        let l = long (omega arith) in
         let x = hex_length (get_or ws i 0) in
         let both = put_both e₁ (space ∷ []) (hex_text (get_or ws i 0)) out₁ e₂ e₃ out₂ out₃ q r (omega arith) in
-        rw (one_more i ws here)
-        (put_both at (words_text (take i ws)) (space ∷ hex_text (get_or ws i 0)) out e₁ e₃ out₁ out₃ p both
-        (omega (arith, p.ends)))
+        rw (one_more i ws here, ← append_assoc (two_text c v) (words_text (take i ws)) (space ∷ hex_text (get_or ws i 0)))
+        (put_both 0 (two_text c v ++ words_text (take i ws)) (space ∷ hex_text (get_or ws i 0)) out e₁ e₃ out₁ out₃ p both (omega arith))
 
--- ---- a line
-
-pub line_put : (c v : ℕ) (ws out : List ℕ) (e₁ e₂ e₃ : ℕ) (out₁ out₂ out₃ : List ℕ) → 42 + 17 * length ws ≤ length out
-    → Put 0 (two_text c v) out e₁ out₁
-    → Put e₁ (words_text ws) out₁ e₂ out₂ → Put e₂ (newline ∷ []) out₂ e₃ out₃
-    → (e₃ ≡ length (line_text c v ws)) × (out₃ ≡ over 0 (line_text c v ws) out)
-unfolding line_text
-line_put c v ws out e₁ e₂ e₃ out₁ out₂ out₃ h p q r =
-    let l = two_length c v in
-    let k = words_text_length ws in
-    let a = put_both 0 (two_text c v) (words_text ws) out e₁ e₂ out₁ out₂ p q (omega arith) in
-    let b = put_both 0 (two_text c v ++ words_text ws) (newline ∷ []) out e₂ e₃ out₂ out₃ a r
-    (omega (arith, length-append (two_text c v) (words_text ws))) in
-    (b.ends ∙ zero-add _, b.bytes)
-
--- there is room for the words, and for the end of the line
-pub words_room : (c v k : ℕ) (out : List ℕ) (e₁ : ℕ) (out₁ : List ℕ) → 42 + 17 * k ≤ length out → Put 0 (two_text c v) out e₁ out₁
-    → e₁ + 17 * k ≤ length out₁
-words_room c v k out e₁ out₁ h p =
-    let l = two_length c v in
-    let j = put_length 0 (two_text c v) out e₁ out₁ p (omega arith) in
-    omega (arith, p.ends)
-
-pub end_room : (c v : ℕ) (ws out : List ℕ) (e₁ e₂ : ℕ) (out₁ out₂ : List ℕ) → 42 + 17 * length ws ≤ length out → Put 0 (two_text c v) out e₁ out₁
-    → Put e₁ (words_text ws) out₁ e₂ out₂ → e₂ < length out₂
-end_room c v ws out e₁ e₂ out₁ out₂ h p q =
-    let l = two_length c v in
-    let k = words_text_length ws in
-    let j = put_length 0 (two_text c v) out e₁ out₁ p (omega arith) in
-    let i = put_length e₁ (words_text ws) out₁ e₂ out₂ q (omega (arith, p.ends)) in
-    omega (arith, p.ends, q.ends)
-
--- the same where there are no words
-pub short_line_put : (c v : ℕ) (out : List ℕ) (e₁ e₂ : ℕ) (out₁ out₂ : List ℕ) → 42 ≤ length out → Put 0 (two_text c v) out e₁ out₁
-    → Put e₁ (newline ∷ []) out₁ e₂ out₂
-    → (e₂ ≡ length (line_text c v [])) × (out₂ ≡ over 0 (line_text c v []) out)
-unfolding words_text
-short_line_put c v out e₁ e₂ out₁ out₂ h p r = line_put c v [] out e₁ e₁ e₂ out₁ out₁ out₂ (omega arith) p (put_none e₁ out₁) r
-
-pub short_end_room : (c v : ℕ) (out : List ℕ) (e₁ : ℕ) (out₁ : List ℕ) → 42 ≤ length out → Put 0 (two_text c v) out e₁ out₁ → e₁ < length out₁
-unfolding words_text
-short_end_room c v out e₁ out₁ h p = end_room c v [] out e₁ e₁ out₁ out₁ (omega arith) p (put_none e₁ out₁)
+  -- every word is there, and the line ends
+  pub line_put : i ≡ length ws → (e₂ : ℕ) (out₂ : List ℕ) → Put e₁ (newline ∷ []) out₁ e₂ out₂
+      → (e₂ ≡ length (line_text c v ws)) × (out₂ ≡ over 0 (line_text c v ws) out)
+  unfolding line_text
+  line_put all e₂ out₂ r =
+      let whole : take i ws ≡ ws = take_all i ws (omega arith) in
+      let l = long (omega arith) in
+      let b = put_both 0 (two_text c v ++ words_text (take i ws)) (newline ∷ []) out e₁ e₂ out₁ out₂ p r (omega arith) in
+      let same : line_text c v (take i ws) ≡ line_text c v ws = ap (line_text c v) whole in
+      (b.ends ∙ zero-add _ ∙ ap length same, b.bytes ∙ ap (λ (ts : List ℕ). over 0 ts out) same)

@@ -2,7 +2,7 @@
 use Prim.Native.Nat.{ℕ, ◌*◌}
 use mathlib.Core.Path.{◌≡◌, refl, ap}
 use mathlib.Core.List.{List}
-use mathlib.Core.Option.{Option, none, some}
+use Rattle.std.specs.Prelude.{Option, None, Some}
 use lib.ListN.{length, take}
 use Rattle.model.specs.Pool as Pool
 use Rattle.model.specs.Pool.{Pool}
@@ -23,21 +23,21 @@ load_refused n len ws s refused =
     (λ t h. rw (loaded, t))
   where
     made : (o : Option Pool) → (code (built len o) ≡ 0 → ⊥) → now_holding n o s ≡ s
-    made none e = refl
-    made (some p) e = absurd (e refl)
+    made None e = refl
+    made (Some p) e = absurd (e refl)
 
 pub refused_line_leaves_all : RefusedLineLeavesAll
 unfolding leaves left_by answered code
-refused_line_leaves_all none s refused = refl
-refused_line_leaves_all (some (pooling n)) s refused =
+refused_line_leaves_all None s refused = refl
+refused_line_leaves_all (Some (pooling n)) s refused =
     by_test (sized n) (λ t. absurd (refused (rw (answered, t)))) (λ t. rw (left_by, t))
-refused_line_leaves_all (some (loading len ws)) nothing refused = refl
-refused_line_leaves_all (some (loading len ws)) (holding n p) refused = load_refused n len ws (holding n p) refused
-refused_line_leaves_all (some (loading len ws)) (damaged n) refused = load_refused n len ws (damaged n) refused
-refused_line_leaves_all (some (ordering o)) nothing refused = refl
-refused_line_leaves_all (some (ordering o)) (holding n p) refused = ap (holding n) (refused_changes_nothing o p refused)
-refused_line_leaves_all (some (ordering o)) (damaged n) refused = refl
-refused_line_leaves_all (some dumping) s refused = refl
+refused_line_leaves_all (Some (loading len ws)) nothing refused = refl
+refused_line_leaves_all (Some (loading len ws)) (holding n p) refused = load_refused n len ws (holding n p) refused
+refused_line_leaves_all (Some (loading len ws)) (damaged n) refused = load_refused n len ws (damaged n) refused
+refused_line_leaves_all (Some (ordering o)) nothing refused = refl
+refused_line_leaves_all (Some (ordering o)) (holding n p) refused = ap (holding n) (refused_changes_nothing o p refused)
+refused_line_leaves_all (Some (ordering o)) (damaged n) refused = refl
+refused_line_leaves_all (Some dumping) s refused = refl
 
 pub refused_line_changes_no_word : RefusedLineChangesNoWord
 refused_line_changes_no_word w s ws n out n' end ws' out' p refused = p.same (refused_line_leaves_all w s refused)

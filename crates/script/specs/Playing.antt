@@ -1,6 +1,6 @@
 -- What a line does: it is played on a pool's words, and its answer is written at the beginning of some bytes.
 use Rattle.std.specs.Prelude.{ℕ, zero, suc, ◌*◌, ◌≤◌, ◌<◌, ◌≡◌, true, false, List, [], ◌∷◌, ◌++◌, eqb, length, take, drop}
-use Rattle.std.proofs.Math.Option.{Option}
+use Rattle.std.specs.Prelude.{Option, None, Some}
 use Rattle.pool.specs.Node.{node_words}
 use Rattle.window.specs.Layout.{Stands, WellFormed}
 use Rattle.grammar.specs.Lines.{Wanted, wanted}
@@ -11,6 +11,10 @@ use Rattle.script.specs.declared.playing.Next.{Next}
 -- how many words a pool of n nodes has, 0 where no pool has so many nodes
 unfoldable pub extent_of : ℕ → ℕ
 extent_of n = elim (sized n) [ true ↦ suc n * node_words | false ↦ 0 ]
+
+-- the same, where a pool has so many nodes
+unfoldable pub pool_extent : ℕ → Option ℕ
+pool_extent n = elim (sized n) [ true ↦ Some (extent_of n) | false ↦ None ]
 
 -- what some words hold, the pool in use having n nodes
 unfoldable pub Keeps : List ℕ → ℕ → State → Type 0

@@ -1,15 +1,14 @@
 -- What a script prints: for each line one, with a code and a value, by what the pool holds when the line is played.
 use Rattle.std.specs.Prelude.{ℕ, ◌*◌, Bool, true, false, ◌&&◌, List, [], ◌∷◌, ◌++◌, leb, length, take}
-use Rattle.std.proofs.Math.Option.{Option, none, some}
+use Rattle.std.specs.Prelude.{Option, None, Some, Ok, Err}
 use Rattle.model.specs.Pool as Pool
 use Rattle.model.specs.Pool.{Pool}
 use Rattle.model.specs.Tree.{marks, size}
 use Rattle.model.specs.Word.{marks_of, words_of, words_for}
-use Rattle.order.specs.Answer.{code, value}
+use Rattle.order.specs.Answer.{Answer, code, value}
 use Rattle.model.specs.Limits.{most_nodes}
 use Rattle.run.specs.Orders.{after, answer}
-use Rattle.order.specs.declared.answer.Answer.{Answer}
-use Rattle.order.specs.declared.answer.Answer.TheVariants.{Done, Full, Malformed, WrongSize, NotSound, TooLong}
+use Rattle.order.specs.declared.answer.Refusal.TheVariants.{Full, Malformed, WrongSize, NotSound, TooLong}
 use Rattle.text.specs.Text.{lines}
 use Rattle.grammar.specs.Lines.{Wanted, dumping, loading, ordering, pooling, wanted}
 use Rattle.text.specs.Text.{decimal_text, hex_text, newline, space}
@@ -29,37 +28,37 @@ sized n = leb 1 n && leb n most_nodes
 
 -- a pool of n nodes that has been made, or what was held before
 unfoldable pub now_holding : ℕ → Option Pool → State → State
-now_holding n (some p) s = holding n p
-now_holding n none s = s
+now_holding n (Some p) s = holding n p
+now_holding n None s = s
 
 -- ---- a load
 
 -- the pool of n nodes with the first marks of some words, so many, where they have as many and there is room
 unfoldable pub loaded : ℕ → ℕ → List ℕ → Option Pool
-loaded n len ws = elim (leb len (64 * length ws)) [ true ↦ Pool.build n (take len (marks_of ws)) | false ↦ none ]
+loaded n len ws = elim (leb len (64 * length ws)) [ true ↦ Pool.build n (take len (marks_of ws)) | false ↦ None ]
 
 abbrev pub built : ℕ → Option Pool → Answer
-built len (some p) = Done len
-built len none = Full
+built len (Some p) = Ok len
+built len None = Err Full
 
 unfoldable pub load_answer : ℕ → ℕ → List ℕ → Answer
 load_answer n len ws =
-    elim (leb len (64 * length ws)) [ true ↦ built len (Pool.build n (take len (marks_of ws))) | false ↦ TooLong ]
+    elim (leb len (64 * length ws)) [ true ↦ built len (Pool.build n (take len (marks_of ws))) | false ↦ Err TooLong ]
 
 -- ---- a line
 
 -- what a line is answered
 unfoldable pub answered : Wanted → State → Answer
-answered (pooling n) s = elim (sized n) [ true ↦ Done n | false ↦ WrongSize ]
-answered (loading len ws) nothing = WrongSize
+answered (pooling n) s = elim (sized n) [ true ↦ Ok n | false ↦ Err WrongSize ]
+answered (loading len ws) nothing = Err WrongSize
 answered (loading len ws) (holding n p) = load_answer n len ws
 answered (loading len ws) (damaged n) = load_answer n len ws
-answered (ordering o) nothing = WrongSize
+answered (ordering o) nothing = Err WrongSize
 answered (ordering o) (holding n p) = answer o p
-answered (ordering o) (damaged n) = NotSound
-answered dumping nothing = WrongSize
-answered dumping (holding n p) = Done (size p.tree)
-answered dumping (damaged n) = NotSound
+answered (ordering o) (damaged n) = Err NotSound
+answered dumping nothing = Err WrongSize
+answered dumping (holding n p) = Ok (size p.tree)
+answered dumping (damaged n) = Err NotSound
 
 -- the words that are told with it: a dump's
 unfoldable pub shown : Wanted → State → List ℕ
@@ -94,12 +93,12 @@ line_text c v ws = decimal_text c ++ (space ∷ decimal_text v) ++ words_text ws
 
 -- what a line prints, and what is held after it; a malformed line asks for nothing and changes nothing
 unfoldable pub says : Option Wanted → State → List ℕ
-says none s = line_text (code Malformed) (value Malformed) []
-says (some w) s = line_text (code (answered w s)) (value (answered w s)) (shown w s)
+says None s = line_text (code (Err Malformed)) (value (Err Malformed)) []
+says (Some w) s = line_text (code (answered w s)) (value (answered w s)) (shown w s)
 
 unfoldable pub leaves : Option Wanted → State → State
-leaves none s = s
-leaves (some w) s = left_by w s
+leaves None s = s
+leaves (Some w) s = left_by w s
 
 -- ---- a whole input
 

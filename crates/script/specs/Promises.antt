@@ -1,16 +1,16 @@
 -- What is promised of a script's lines. The proofs are in proofs/Refused.antt.
 use Rattle.std.specs.Prelude.{ℕ, ◌≡◌, List}
-use Rattle.std.proofs.Math.Option.{Option, none, some}
+use Rattle.std.specs.Prelude.{Option, None, Some, Err}
 use Rattle.order.specs.Answer.{code}
-use Rattle.order.specs.declared.answer.Answer.TheVariants.{Malformed}
+use Rattle.order.specs.declared.answer.Refusal.TheVariants.{Malformed}
 use Rattle.grammar.specs.Lines.{Wanted}
 use Rattle.script.specs.Prints.{State, answered, leaves}
 use Rattle.script.specs.Playing.{desk, Played}
 
 -- the code that a line prints
 abbrev pub line_code : Option Wanted → State → ℕ
-line_code none s = code Malformed
-line_code (some w) s = code (answered w s)
+line_code None s = code (Err Malformed)
+line_code (Some w) s = code (answered w s)
 
 -- a line that is not answered 0 leaves what is held as it was
 abbrev pub RefusedLineLeavesAll : Type 0

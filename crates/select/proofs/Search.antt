@@ -6,7 +6,7 @@ use native.Mathlib.Omega.{arith}
 use mathlib.Core.Path.{◌≡◌, refl, sym, ap, ◌∙◌}
 use mathlib.Core.Bool.{Bool, true, false}
 use mathlib.Core.List.{[], ◌∷◌}
-use mathlib.Core.Option.{some}
+use Rattle.std.specs.Prelude.{Some}
 use lib.Bits.{bit_and, and_mask}
 use lib.ListN.{length}
 use lib.Pow.{shr-shr}
@@ -14,9 +14,10 @@ use Rattle.model.specs.Marks.{ones, place, further}
 use Rattle.model.specs.Word.{odd, bits, digit}
 use Rattle.model.proofs.Counting.{place_in_first, place_in_second, further_zero, further_further}
 use Rattle.model.proofs.Words.{bits_add, bits_length, digit_odd, ones_cons}
-use Rattle.select.specs.Select.{Search, InField}
+use Rattle.select.specs.Select.{Search, InField, sums_of}
 use Rattle.select.specs.Fields.{field_counts}
 use Rattle.select.specs.declared.select.Reached.{Reached}
+use Rattle.select.specs.declared.select.Sums.{Sums}
 use Rattle.select.proofs.Fields.{field_of_counts, ones_bits_le, ones_bits_add}
 
 -- the search begins at the whole word
@@ -50,7 +51,7 @@ module _ {w k : ℕ} (m n : ℕ) {r : Reached} (s : Search w k (m + n) r) where
         ∙ further_further r.pos (length (bits m (w / 2 ^ r.pos))) _ ∙ rw bits_length);
   }
 
-only : (b : Bool) (left : ℕ) → 1 ≤ left → left ≤ ones (b ∷ []) → place left (b ∷ []) ≡ some 0
+only : (b : Bool) (left : ℕ) → 1 ≤ left → left ≤ ones (b ∷ []) → place left (b ∷ []) ≡ Some 0
 unfolding ones place
 only true zero h l = absurd (omega arith)
 only true (suc zero) h l = refl
@@ -58,9 +59,9 @@ only true (suc (suc left)) h l = absurd (omega arith)
 only false left h l = absurd (omega arith)
 
 -- at one bit it has come to the place
-pub found : {w k : ℕ} {r : Reached} → Search w k 1 r → place k (bits 64 w) ≡ some r.pos
+pub found : {w k : ℕ} {r : Reached} → Search w k 1 r → place k (bits 64 w) ≡ Some r.pos
 unfolding bits further
-found {w} {k} {r} s = s.same ∙ rw (only (odd (w / 2 ^ r.pos)) r.left s.one s.enough) (ap some (add-zero r.pos))
+found {w} {k} {r} s = s.same ∙ rw (only (odd (w / 2 ^ r.pos)) r.left s.one s.enough) (ap Some (add-zero r.pos))
 
 -- ---- fields
 
@@ -89,6 +90,16 @@ pub held_bit : (x : ℕ) → bit_and x 1 ≡ ones (bits 1 x)
 unfolding bits ones
 held_bit x = and_mask x 1 ∙ sym (digit_odd x) ∙ sym (ones_cons (odd x) [] ∙ add-zero (digit (odd x)))
 
+-- what the sums of a word say in the lower half of a byte, and of a half byte
+module _ {w k : ℕ} {sums : Sums} (e : sums ≡ sums_of w) {r : Reached} where
+  pub half_held : (f : InField w k 8 r) → bit_and (sums.halves / 2 ^ r.pos) 0x0f ≡ ones (bits 4 (w / 2 ^ r.pos))
+  unfolding sums_of
+  half_held f = rw e (held_below 4 16 f (omega arith))
+
+  pub pair_held : (f : InField w k 4 r) → bit_and (sums.pairs / 2 ^ r.pos) 0x03 ≡ ones (bits 2 (w / 2 ^ r.pos))
+  unfolding sums_of
+  pair_held f = rw e (held_below 2 32 f (omega arith))
+
 -- ---- bytes
 
 -- the search has come to a byte, and the bit is in it or in one after it
@@ -110,3 +121,9 @@ module _ {w k here : ℕ} {r : Reached} (b : InBytes w k r) (e : here ≡ ones (
       let some_left : r.pos < 56 = omega (arith, s.one, s.enough, ones_bits_le (56 - r.pos) (w / 2 ^ (r.pos + 8))) in
       let same : 56 - r.pos ≡ 8 + (56 - (r.pos + 8)) = omega (arith, b.begins.1) in
       record { begins = (b.begins.0 + 1, omega (arith, b.begins.1)); room = omega (arith, b.begins.1); search = rw same at s }
+
+-- what the sums of a word say of the byte that the search has come to
+pub byte_held : {w k : ℕ} {sums : Sums} {r : Reached} → sums ≡ sums_of w → InBytes w k r
+    → bit_and (sums.bytes / 2 ^ r.pos) 0xff ≡ ones (bits 8 (w / 2 ^ r.pos))
+unfolding sums_of
+byte_held {r = r} e b = rw e (held 8 8 _ r.pos b.begins.0 b.begins.1 (omega arith))

@@ -5,19 +5,16 @@ use native.Mathlib.Nat.{lt_of_lt_of_le}
 use native.Mathlib.Omega.{arith}
 use mathlib.Core.Path.{◌≡◌, refl, sym, ap, ◌∙◌}
 use mathlib.Core.Bool.{Bool, true, false}
-use mathlib.Core.List.{List, ◌++◌}
-use mathlib.Core.Option.{Option, none, some}
-use lib.ListN.{length}
+use mathlib.Core.List.{◌++◌}
+use Rattle.std.specs.Prelude.{Option}
 use lib.Pow.{pow_pos, pow_mono}
 use Rattle.model.specs.Marks.{ones, place, further, wanted, count, select}
 use Rattle.model.specs.Word.{bits}
-use Rattle.model.proofs.Counting.{wanted_length, place_in_first, place_none, place_below, select_in_first, select_in_second}
+use Rattle.model.proofs.Counting.{place_in_first, place_none, select_in_first, select_in_second}
 use Rattle.model.proofs.Cases.{by_ltb}
-use Rattle.model.proofs.Words.{bits_add, bits_not}
+use Rattle.model.proofs.Words.{bits_add, bits_length, bits_not}
 use Rattle.bits.proofs.Ones.{counted}
-use Rattle.select.specs.Select.{chosen, placed}
-use Rattle.select.specs.declared.select.Place.{Place}
-use Rattle.select.specs.declared.select.Place.TheVariants.{At, Nothing}
+use Rattle.select.specs.Select.{chosen}
 
 -- the set bits of the chosen word are the wanted ones
 chosen_bits : (n : ℕ) (b : Bool) (w : ℕ) → w < 2 ^ n → bits n (chosen n b w) ≡ wanted b (bits n w)
@@ -52,38 +49,21 @@ module _ (n m : ℕ) (s : 64 ≡ n + m) (b : Bool) (w : ℕ) (h : w < 2 ^ n) {v 
   chosen_count = same_count n m s v (rw e (chosen_fits n b w h))
 
   -- the k-th wanted bit is its k-th set one
-  pub chosen_place : (k : ℕ) → placed (place k (bits 64 v)) ≡ placed (select b k (bits n w))
+  pub chosen_place : (k : ℕ) → place k (bits 64 v) ≡ select b k (bits n w)
   unfolding select
   chosen_place k =
-      ap placed (widened n m s v (rw e (chosen_fits n b w h)) k ∙ ap (λ (x : ℕ). place k (bits n x)) e ∙ ap (place k) (chosen_bits n b w h))
+      widened n m s v (rw e (chosen_fits n b w h)) k ∙ ap (λ (x : ℕ). place k (bits n x)) e ∙ ap (place k) (chosen_bits n b w h)
 
 -- ---- two words
 
--- an answer in the second of two words, counted from the first
-abbrev pub beyond : ℕ → Place → Place
-beyond n (At p) = At (n + p)
-beyond n Nothing = Nothing
+-- m bits of a kind are in the first of two words; the k-th of both is looked for there where it has so many, else in the second
+module _ (n : ℕ) (b : Bool) (k low high : ℕ) {m v : ℕ} (c : m ≡ ones (bits n v)) (e : v ≡ chosen n b low) (h : low < 2 ^ n) where
+  here : m ≡ count b (bits n low)
+  here = c ∙ count_is n b low h e
 
-placed_further : (n : ℕ) (o : Option ℕ) → beyond n (placed o) ≡ placed (further n o)
-unfolding placed further
-placed_further n none = refl
-placed_further n (some p) = refl
+  pub in_low : k ≤ m → select b k (bits n low) ≡ select b k (bits n low ++ bits n high)
+  in_low l = sym (select_in_first b k (bits n low) (bits n high) (rw here at l))
 
-module _ (b : Bool) (k : ℕ) (low high : List Bool) (r : Place) where
-  pub in_low : k ≤ count b low → r ≡ placed (select b k low) → r ≡ placed (select b k (low ++ high))
-  in_low h e = e ∙ ap placed (sym (select_in_first b k low high h))
-
-  pub in_high : count b low < k → r ≡ placed (select b (k - count b low) high)
-      → beyond (length low) r ≡ placed (select b k (low ++ high))
-  in_high h e =
-      ap (beyond (length low)) e ∙ placed_further (length low) (select b (k - count b low) high)
-      ∙ ap placed (sym (select_in_second b k low high h))
-
--- a place that is found lies in the word
-pub placed_below : (b : Bool) (k : ℕ) (xs : List Bool) (p : ℕ) → At p ≡ placed (select b k xs) → p < length xs
-unfolding placed select
-placed_below b k xs p e = rw (← wanted_length b xs) (go (place k (wanted b xs)) (place_below k (wanted b xs)) e)
-  where
-    go : {n : ℕ} (o : Option ℕ) → ((q : ℕ) → o ≡ some q → q < n) → At p ≡ placed o → p < n
-    go none f e' = let z : ◌≡◌ {A = ℕ} 0 1 = cc in absurd (omega arith)
-    go (some q) f e' = let z : q ≡ p = cc in rw z at (f q refl)
+  pub in_high : m < k → {r : Option ℕ} → select b (k - m) (bits n high) ≡ r → further n r ≡ select b k (bits n low ++ bits n high)
+  in_high l a =
+      ap (further n) (sym a ∙ rw here refl) ∙ sym (rw bits_length at (select_in_second b k (bits n low) (bits n high) (rw here at l)))

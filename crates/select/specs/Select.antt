@@ -1,18 +1,10 @@
 -- In-word select: what its parts mean, on the list of a word's bits.
 use Rattle.std.specs.Prelude.{ℕ, ◌+◌, ◌-◌, ◌*◌, ◌/◌, ◌^◌, ◌≤◌, ◌≡◌, Bool, true, false}
-use Rattle.std.proofs.Math.Option.{Option, none, some}
 use Rattle.model.specs.Marks.{ones, place, further}
 use Rattle.model.specs.Word.{bits}
 use Rattle.select.specs.Fields.{field_counts}
-use Rattle.select.specs.declared.select.Place.{Place}
-use Rattle.select.specs.declared.select.Place.TheVariants.{At, Nothing}
 use Rattle.select.specs.declared.select.Reached.{Reached}
 use Rattle.select.specs.declared.select.Sums.{Sums}
-
--- the answer for a place in a list, or for none
-unfoldable pub placed : Option ℕ → Place
-placed none = Nothing
-placed (some p) = At p
 
 -- the word of n bits in which the wanted bits of w are set: w itself for ones, its opposite for zeros
 abbrev pub chosen : ℕ → Bool → ℕ → ℕ

@@ -3,4 +3,4 @@
 
 mod select;
 
-pub use select::{Place, select32, select64, select128};
+pub use select::{select_word, select128};

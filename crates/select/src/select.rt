@@ -1,19 +1,12 @@
 // The place of the k-th bit of a word, k from 1, at 32, 64 and 128 bits. The masked sums tell how many bits are set in
 // each byte, half byte and pair; a loop finds the byte, and three steps find the bit in it.
-ghost use Rattle.std.specs.Prelude.{◌++◌, ◌≡◌, ℕ, ◌+◌, ◌/◌, ◌^◌, ◌≤◌};
-ghost use Rattle.std.proofs.Math.Option.{some};
+ghost use Rattle.std.specs.Prelude.{◌++◌, ◌≡◌, ℕ, ◌+◌, ◌/◌, ◌^◌, ◌<◌, ◌≤◌};
+ghost use Rattle.std.specs.Prelude.{Some};
 ghost use Rattle.model.specs.Marks.{ones, place, select};
 ghost use Rattle.model.specs.Word.{bits};
-ghost use Rattle.select.specs.Select.{InField, chosen, placed, sums_of};
+ghost use Rattle.select.specs.Select.{InField, chosen, sums_of};
 
-use bits::{WORD_BITS, ones32, ones64};
-
-// Where a wanted bit stands, or that there is none.
-#[derive(Clone, Copy)]
-pub enum Place {
-    At(u64),
-    Nothing,
-}
+use bits::{WORD_BITS, Word};
 
 // The masked sums: in each pair of bits, each half byte and each byte of a word, how many of its bits are set.
 #[derive(Clone, Copy)]
@@ -31,16 +24,12 @@ struct Reached {
 }
 
 // The word in which the bits looked for are set.
-fn chosen64(word: u64, bit: bool) -> u64
-    ensures { result ≡ chosen 64 bit word }
+fn chosen<W: Word>(word: W, bit: bool) -> W
+    ensures same { W.number result ≡ chosen W.width bit (W.number word) }
+    ensures fits { W.number word < 2 ^ W.width }
 {
-    if bit { word } else { !word }
-}
-
-fn chosen32(word: u32, bit: bool) -> u32
-    ensures { result ≡ chosen 32 bit word }
-{
-    if bit { word } else { !word }
+    let other = word.opposite();
+    if bit { word } else { other }
 }
 
 fn masked_sums(value: u64) -> Sums
@@ -76,7 +65,7 @@ impl Reached {
 // From the byte that holds the bit to the bit, by halving the field three times.
 fn place_in_byte(value: u64, sums: Sums, byte: Reached) -> u64
     requires { (sums ≡ sums_of value) × ((k : ℕ) × InField value k 8 byte) }
-    ensures { (k : ℕ) → InField value k 8 byte → place k (bits 64 value) ≡ some result }
+    ensures { (k : ℕ) → InField value k 8 byte → place k (bits 64 value) ≡ Some result }
 {
     let half = byte.halved((sums.halves >> byte.pos) & 0x0f, 4);
     let pair = half.halved((sums.pairs >> half.pos) & 0x03, 2);
@@ -84,10 +73,11 @@ fn place_in_byte(value: u64, sums: Sums, byte: Reached) -> u64
     last.pos
 }
 
-// The place of the k-th set bit, where there are as many.
+// The place of the k-th set bit, where there are as many. The loop breaks with its place (docs/DECISIONS.md, 'Forms
+// by place'), which an iterator over the bytes would have to hand on beside what is left.
 fn place_of_set(value: u64, k: u64) -> u64
     requires { (1 ≤ k) × (k ≤ ones (bits 64 value)) }
-    ensures { place k (bits 64 value) ≡ some result }
+    ensures { place k (bits 64 value) ≡ Some result }
 {
     let sums = masked_sums(value);
     let mut pos: u64 = 0;
@@ -104,45 +94,32 @@ fn place_of_set(value: u64, k: u64) -> u64
 }
 
 // The place of the k-th set bit, where so many are set.
-fn kth_set(value: u64, count: u64, k: u64) -> Place
+fn kth_set(value: u64, count: u64, k: u64) -> Option<u64>
     requires { count ≡ ones (bits 64 value) }
-    ensures { result ≡ placed (place k (bits 64 value)) }
+    ensures { result ≡ place k (bits 64 value) }
 {
-    if k == 0 {
-        return Place::Nothing;
+    if k == 0 || count < k {
+        return None;
     }
-    if count < k {
-        return Place::Nothing;
-    }
-    Place::At(place_of_set(value, k))
+    Some(place_of_set(value, k))
 }
 
-// The place of the k-th one, or zero, of a word of 64 bits.
-pub fn select64(word: u64, bit: bool, k: u64) -> Place
-    ensures { result ≡ placed (select bit k (bits 64 word)) }
+// The place of the k-th one, or zero, of a word.
+pub fn select_word<W: Word>(word: W, bit: bool, k: u64) -> Option<u64>
+    ensures { result ≡ select bit k (bits W.width (W.number word)) }
 {
-    let value = chosen64(word, bit);
-    kth_set(value, ones64(value), k)
-}
-
-// The same of a word of 32 bits.
-pub fn select32(word: u32, bit: bool, k: u64) -> Place
-    ensures { result ≡ placed (select bit k (bits 32 word)) }
-{
-    let value = chosen32(word, bit);
-    kth_set(value as u64, ones32(value), k)
+    let value = chosen(word, bit);
+    kth_set(value.wide(), value.ones(), k)
 }
 
 // The same of 128 bits in two words.
-pub fn select128(low: u64, high: u64, bit: bool, k: u64) -> Place
-    ensures { result ≡ placed (select bit k (bits 64 low ++ bits 64 high)) }
+pub fn select128(low: u64, high: u64, bit: bool, k: u64) -> Option<u64>
+    ensures { result ≡ select bit k (bits 64 low ++ bits 64 high) }
 {
-    let in_low = ones64(chosen64(low, bit));
+    let in_low = chosen(low, bit).ones();
     if k <= in_low {
-        return select64(low, bit, k);
+        return select_word(low, bit, k);
     }
-    match select64(high, bit, k - in_low) {
-        Place::At(pos) => Place::At(WORD_BITS + pos),
-        Place::Nothing => Place::Nothing,
-    }
+    let pos = select_word(high, bit, k - in_low)?;
+    Some(WORD_BITS + pos)
 }

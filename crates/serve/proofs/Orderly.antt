@@ -5,7 +5,8 @@ use native.Mathlib.Omega.{arith}
 use mathlib.Core.Path.{◌≡◌, refl, sym, ap, ◌∙◌}
 use mathlib.Core.Bool.{Bool, true, false}
 use mathlib.Core.List.{List}
-use mathlib.Core.Option.{Option, none, some}
+use Rattle.std.specs.Option.{ok_or}
+use Rattle.std.specs.Prelude.{Option, None, Some, Ok, Err}
 use lib.Dec.{leb, ltb}
 use lib.ListN.{length}
 use mir.Val.{bool_byte}
@@ -22,15 +23,11 @@ use Rattle.model.proofs.PoolSound.{insert_sound, remove_sound}
 use Rattle.model.proofs.Tops.{insert_top}
 use Rattle.grow.specs.Inserting.{rest}
 use Rattle.shrink.proofs.Trimming.{remove_top}
-use Rattle.tree.specs.Query.{found_of}
-use Rattle.tree.specs.declared.query.Found.{Found}
-use Rattle.tree.specs.declared.query.Found.TheVariants.{At, TooFew as Lacking}
-use Rattle.model.specs.Word.{digit}
 use Rattle.order.specs.Asked.{Asked, inserting, removing, accessing, ranking, selecting, quiet, unknown}
 use Rattle.order.specs.Plain.{placed, list_answer}
 use Rattle.serve.specs.Orders.{no_room, answer, after}
-use Rattle.order.specs.declared.answer.Answer.{Answer}
-use Rattle.order.specs.declared.answer.Answer.TheVariants.{Done, OutOfRange, NoZeroth, TooFew, Full, Malformed}
+use Rattle.order.proofs.Asking.{bit_word}
+use Rattle.order.specs.declared.answer.Refusal.TheVariants.{OutOfRange, NoZeroth, TooFew, Full, Malformed}
 
 -- true is not false
 pub never : {A : Type 0} {b : Bool} → b ≡ true → b ≡ false → A
@@ -58,11 +55,11 @@ abbrev pub with_mark : ℕ → Bool → Pool → Pool
 with_mark i b p = record { tree = Edit.insert i b p.free p.tree; free = rest (Edit.splits i p.tree) p.free }
 
 module _ (may : Bool) (i : ℕ) (b : Bool) (p : Pool) where
-  pub insert_some : Pool.full may i p ≡ false → Pool.insert may i b p ≡ some (with_mark i b p)
+  pub insert_some : Pool.full may i p ≡ false → Pool.insert may i b p ≡ Some (with_mark i b p)
   unfolding Pool.insert
   insert_some e = by_test (Edit.splits i p.tree) (λ s. rw (Pool.insert, e, s)) (λ s. rw (Pool.insert, e, s))
 
-  pub insert_none : Pool.full may i p ≡ true → Pool.insert may i b p ≡ none
+  pub insert_none : Pool.full may i p ≡ true → Pool.insert may i b p ≡ None
   unfolding Pool.insert
   insert_none e = rw (Pool.insert, e)
 
@@ -71,16 +68,16 @@ module _ (may : Bool) (i : ℕ) (b : Bool) (p : Pool) where
   unfolding Pool.full
   room_taken e s = by_test may (λ y. y) (λ n. never (rw (Pool.full, s, n)) e)
 
-  pub insert_out : size p.tree < i → (OutOfRange ≡ answer may (inserting i b) p) × (after may (inserting i b) p ≡ p)
+  pub insert_out : size p.tree < i → (Err OutOfRange ≡ answer may (inserting i b) p) × (after may (inserting i b) p ≡ p)
   unfolding answer no_room list_answer after
   insert_out h = (rw (answer, no_room, past i p.tree h, list_answer, past i p.tree h), rw (after, past i p.tree h))
 
-  pub insert_full : i ≤ size p.tree → Pool.full may i p ≡ true → (Full ≡ answer may (inserting i b) p) × (after may (inserting i b) p ≡ p)
+  pub insert_full : i ≤ size p.tree → Pool.full may i p ≡ true → (Err Full ≡ answer may (inserting i b) p) × (after may (inserting i b) p ≡ p)
   unfolding answer no_room after
   insert_full h e = (rw (answer, no_room, within i p.tree h, e), rw (after, within i p.tree h, insert_none e))
 
   pub insert_done : i ≤ size p.tree → Pool.full may i p ≡ false
-      → (Done 0 ≡ answer may (inserting i b) p) × (after may (inserting i b) p ≡ with_mark i b p)
+      → (Ok 0 ≡ answer may (inserting i b) p) × (after may (inserting i b) p ≡ with_mark i b p)
   unfolding answer no_room list_answer after
   insert_done h e =
       (rw (answer, no_room, within i p.tree h, e, list_answer, within i p.tree h), rw (after, within i p.tree h, insert_some e))
@@ -97,14 +94,8 @@ module _ (may : Bool) (i : ℕ) (b : Bool) (p : Pool) where
 
 -- ---- remove
 
--- a mark as a word
-bit_word : (b : Bool) → bool_byte b ≡ digit b
-unfolding digit
-bit_word true = refl
-bit_word false = refl
-
 module _ (may : Bool) (i : ℕ) (p : Pool) where
-  pub remove_out : size p.tree ≤ i → (OutOfRange ≡ answer may (removing i) p) × (after may (removing i) p ≡ p)
+  pub remove_out : size p.tree ≤ i → (Err OutOfRange ≡ answer may (removing i) p) × (after may (removing i) p ≡ p)
   unfolding answer no_room list_answer after
   remove_out h = (rw (answer, no_room, list_answer, above i p.tree h), rw (after, above i p.tree h))
 
@@ -112,7 +103,7 @@ module _ (may : Bool) (i : ℕ) (p : Pool) where
   unfolding after
   remove_after h = rw (after, below i p.tree h)
 
-  pub remove_done : (b : Bool) → i < size p.tree → b ≡ Marks.access i (marks p.tree) → Done (bool_byte b) ≡ answer may (removing i) p
+  pub remove_done : (b : Bool) → i < size p.tree → b ≡ Marks.access i (marks p.tree) → Ok (bool_byte b) ≡ answer may (removing i) p
   unfolding answer no_room list_answer
   remove_done b h e = rw (answer, no_room, list_answer, below i p.tree h, bit_word b, e)
 
@@ -122,45 +113,41 @@ module _ (may : Bool) (i : ℕ) (p : Pool) where
 -- ---- the questions
 
 module _ (i : ℕ) (t : Tree) where
-  pub access_out : size t ≤ i → OutOfRange ≡ list_answer (accessing i) (marks t)
+  pub access_out : size t ≤ i → Err OutOfRange ≡ list_answer (accessing i) (marks t)
   unfolding list_answer
   access_out h = rw (list_answer, above i t h)
 
-  pub access_done : (b : Bool) → i < size t → b ≡ Marks.access i (marks t) → Done (bool_byte b) ≡ list_answer (accessing i) (marks t)
+  pub access_done : (b : Bool) → i < size t → b ≡ Marks.access i (marks t) → Ok (bool_byte b) ≡ list_answer (accessing i) (marks t)
   unfolding list_answer
   access_done b h e = rw (list_answer, below i t h, bit_word b, e)
 
-  pub rank_out : (b : Bool) → size t < i → OutOfRange ≡ list_answer (ranking i b) (marks t)
+  pub rank_out : (b : Bool) → size t < i → Err OutOfRange ≡ list_answer (ranking i b) (marks t)
   unfolding list_answer
   rank_out b h = rw (list_answer, past i t h)
 
-  pub rank_done : (b : Bool) (r : ℕ) → i ≤ size t → r ≡ Marks.rank b i (marks t) → Done r ≡ list_answer (ranking i b) (marks t)
+  pub rank_done : (b : Bool) (r : ℕ) → i ≤ size t → r ≡ Marks.rank b i (marks t) → Ok r ≡ list_answer (ranking i b) (marks t)
   unfolding list_answer
   rank_done b r h e = rw (list_answer, within i t h, e)
 
--- a place that was found as an answer
-abbrev pub told_place : Found → Answer
-told_place (At v) = Done v
-told_place Lacking = TooFew
-
-told_found : (m : Option ℕ) → told_place (found_of m) ≡ placed m
-told_found none = refl
-told_found (some v) = refl
-
-pub select_first : (k : ℕ) (b : Bool) (xs : List Bool) → k ≡ 0 → NoZeroth ≡ list_answer (selecting k b) xs
+pub select_first : (k : ℕ) (b : Bool) (xs : List Bool) → k ≡ 0 → Err NoZeroth ≡ list_answer (selecting k b) xs
 unfolding list_answer
 select_first zero b xs e = refl
 select_first (suc k) b xs e = absurd (omega arith)
 
-pub select_done : (k : ℕ) (b : Bool) (xs : List Bool) (f : Found) → 1 ≤ k → f ≡ found_of (Marks.select b k xs)
-    → told_place f ≡ list_answer (selecting k b) xs
-unfolding list_answer
-select_done zero b xs f h e = absurd (omega arith)
-select_done (suc k) b xs f h e = ap told_place e ∙ told_found (Marks.select b (suc k) xs)
+-- a place that was found, or too few, is told as the list tells it
+told_place : (o : Option ℕ) → ok_or o TooFew ≡ placed o
+told_place None = refl
+told_place (Some v) = refl
 
-pub quiet_done : (xs : List Bool) (r : ℕ) → r ≡ Marks.longest_quiet xs → Done r ≡ list_answer quiet xs
+pub select_done : (k : ℕ) (b : Bool) (xs : List Bool) (o : Option ℕ) → 1 ≤ k → o ≡ Marks.select b k xs
+    → ok_or o TooFew ≡ list_answer (selecting k b) xs
 unfolding list_answer
-quiet_done xs r e = ap Done e
+select_done zero b xs o h e = absurd (omega arith)
+select_done (suc k) b xs o h e = told_place o ∙ ap placed e
+
+pub quiet_done : (xs : List Bool) (r : ℕ) → r ≡ Marks.longest_quiet xs → Ok r ≡ list_answer quiet xs
+unfolding list_answer
+quiet_done xs r e = ap Ok e
 
 -- ---- any order
 
@@ -229,6 +216,6 @@ pub unknown_asks : Asks unknown
 unfolding answer no_room after
 unknown_asks = record { answers = λ may p. refl; leaves = λ may p. refl }
 
-pub unknown_answer : (xs : List Bool) → Malformed ≡ list_answer unknown xs
+pub unknown_answer : (xs : List Bool) → Err Malformed ≡ list_answer unknown xs
 unfolding list_answer
 unknown_answer xs = refl

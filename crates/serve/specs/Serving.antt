@@ -4,34 +4,30 @@ use Rattle.std.specs.Prelude.{ℕ, ◌+◌, ◌≤◌, ◌<◌, ◌^◌, ◌≡�
 use mathlib.Core.List.{List, ◌++◌, Memᴰ}
 use Rattle.model.specs.Limits.{levels}
 use Rattle.model.specs.Pool.{Pool}
-use Rattle.model.specs.Tree.{Tree, size, numbers}
-use Rattle.pool.specs.Layout.{Chained, Edited, Rooted, first_of}
+use Rattle.model.specs.Tree.{top, size, numbers}
+use Rattle.pool.specs.Layout.{Chained, Edited, first_of}
+use Rattle.tree.specs.declared.root.Held.{Held}
 use Rattle.turn.specs.Sites.{Site}
 use Rattle.order.specs.Asked.{Asked}
 use Rattle.serve.specs.Orders.{answer, after}
-use Rattle.serve.specs.declared.serving.Held.{Held}
 use Rattle.serve.specs.declared.serving.Served.{Served}
-
--- a tree that can be asked: it stands from the root down, and holds so many marks
-pub record Grown (w : List ℕ) (h : Held) (t : Tree) : Type 0 where
-  pub rooted : Rooted w h.root levels t
-  pub total : size t ≡ h.length
 
 -- A tree with its free numbers that can be edited. The chain ends with `end`, which is no node's number; and where two
 -- nodes may be taken, two are free.
 pub record ToServe (w : List ℕ) (end : ℕ) (h : Held) (may : Bool) (p : Pool) : Type 0 where
-  pub site : Site w h.root levels end h.chain.first p.tree p.free
-  pub total : size p.tree ≡ h.length
+  pub site : Site w h.tree.node levels end h.chain.first p.tree p.free
+  pub total : size p.tree ≡ h.tree.length
   pub count : length p.free ≡ h.chain.count
   pub past : Memᴰ end (numbers p.tree ++ p.free) → ⊥
   pub fits : h.chain.count + 2 < 2 ^ 64
   pub two : may ≡ true → 2 ≤ length p.free
 
--- It was so answered, and stands in w' as it is afterwards; what is handed back says so of it.
+-- It was so answered, and stands in w' as it is afterwards, its root where it was; what is handed back says so of it.
 pub record Serves (w w' : List ℕ) (end : ℕ) (may : Bool) (o : Asked) (p : Pool) (r : Served) : Type 0 where
   pub answered : r.answer ≡ answer may o p
   pub edited : Edited w w' (numbers p.tree ++ p.free) (after may o p).tree
   pub chained : Chained w' end (after may o p).free
-  pub first : first_of end (after may o p).free ≡ r.chain.first
-  pub count : length (after may o p).free ≡ r.chain.count
-  pub total : size (after may o p).tree ≡ r.length
+  pub first : first_of end (after may o p).free ≡ r.held.chain.first
+  pub count : length (after may o p).free ≡ r.held.chain.count
+  pub root : top p.tree ≡ r.held.tree.node
+  pub total : size (after may o p).tree ≡ r.held.tree.length

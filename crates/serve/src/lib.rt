@@ -4,4 +4,4 @@
 
 mod serving;
 
-pub use serving::{Held, Served, serve};
+pub use serving::{Served, serve};

@@ -1,63 +1,53 @@
 // One order on a tree: its own tests in their sequence, and then the tree is asked or edited. An order that is
 // refused changes no node.
 ghost use Rattle.std.specs.Prelude.{◌≡◌, ℕ};
+ghost use Rattle.model.specs.Limits.{levels};
 ghost use Rattle.model.specs.Pool.{Pool};
-ghost use Rattle.model.specs.Tree.{Tree, marks};
-ghost use Rattle.order.specs.Asked.{accessing, asks, inserting, quiet, ranking, removing, selecting};
+ghost use Rattle.model.specs.Tree.{marks};
+ghost use Rattle.order.specs.Asked.{accessing, asked_by, inserting, quiet, ranking, removing, selecting};
 ghost use Rattle.order.specs.Plain.{list_answer};
-ghost use Rattle.serve.specs.Serving.{Grown, Serves, ToServe};
+ghost use Rattle.tree.specs.TreeAt.{TreeAt};
+ghost use Rattle.serve.specs.Serving.{Serves, ToServe};
 
-use order::{ACCESS, Answer, INSERT, QUIET, RANK, REMOVE, SELECT};
-use pool::Chain;
-use tree::Found;
+use order::{Answer, ORDER_WORDS, Order, Refusal};
+use tree::{Held, Root};
 
-// What is known of a tree among node words: its root, how many marks it holds, and the free chain beside it.
-#[derive(Clone, Copy)]
-pub struct Held {
-    pub root: u64,
-    pub length: u64,
-    pub chain: Chain,
-}
-
-// What an order is answered, and what is known of the tree afterwards. Its root stays.
-#[derive(Clone, Copy)]
+// What an order is answered, and the tree and the chain as they are afterwards. The root stays.
+#[derive(Clone, Copy, Debug, PartialEq, Eq, Hash)]
 pub struct Served {
     pub answer: Answer,
-    pub length: u64,
-    pub chain: Chain,
+    pub held: Held,
 }
 
 // An answer that leaves the tree as it is.
 fn unmoved(held: Held, answer: Answer) -> Served
-    ensures { result ≡ record { answer = answer; length = held.length; chain = held.chain } }
+    ensures { result ≡ record { answer = answer; held = held } }
 {
-    let chain = held.chain;
-    Served {
-        answer,
-        length: held.length,
-        chain,
-    }
+    Served { answer, held }
 }
 
-// Puts a mark in at a place; a leaf splits only where two nodes may be taken.
+// Puts a mark in at a place; a leaf splits only where two nodes may be taken. What an edit asks has one name here and
+// below, `ToServe`.
 fn insert_at(nodes: &mut [u64], held: Held, may: bool, index: u64, bit: bool) -> Served
     requires { (end : ℕ) × (p : Pool) × ToServe nodes.old end held may p }
     ensures { (end : ℕ) (p : Pool) → ToServe nodes.old end held may p
         → Serves nodes.old nodes.new end may (inserting index bit) p result }
 {
-    if held.length < index {
-        return unmoved(held, Answer::OutOfRange);
+    if held.tree.length < index {
+        return unmoved(held, Err(Refusal::OutOfRange));
     }
-    if grow::room(nodes, held.root, held.length, may, index) {
-        let chain = held.chain;
-        let after = grow::insert(nodes, held.root, held.length, chain, index, bit);
+    if grow::room(nodes, held.tree, may, index) {
+        let chain = grow::insert(nodes, held, index, bit);
+        let tree = Root {
+            length: held.tree.length + 1,
+            ..held.tree
+        };
         return Served {
-            answer: Answer::Done(0),
-            length: held.length + 1,
-            chain: after,
+            answer: Ok(0),
+            held: Held { tree, chain },
         };
     }
-    unmoved(held, Answer::Full)
+    unmoved(held, Err(Refusal::Full))
 }
 
 // Takes the mark at a place out.
@@ -66,108 +56,77 @@ fn remove_at(nodes: &mut [u64], held: Held, may: bool, index: u64) -> Served
     ensures { (end : ℕ) (p : Pool) → ToServe nodes.old end held may p
         → Serves nodes.old nodes.new end may (removing index) p result }
 {
-    if held.length <= index {
-        return unmoved(held, Answer::OutOfRange);
+    if held.tree.length <= index {
+        return unmoved(held, Err(Refusal::OutOfRange));
     }
-    let chain = held.chain;
-    let removed = shrink::remove(nodes, held.root, held.length, chain, index);
-    let after = removed.chain;
+    let removed = shrink::remove(nodes, held, index);
+    let tree = Root {
+        length: held.tree.length - 1,
+        ..held.tree
+    };
     Served {
-        answer: Answer::Done(removed.bit as u64),
-        length: held.length - 1,
-        chain: after,
+        answer: Ok(removed.bit as u64),
+        held: Held {
+            tree,
+            chain: removed.chain,
+        },
     }
 }
 
 // The mark at a place.
-fn access_at(nodes: &[u64], held: Held, index: u64) -> Answer
-    requires { (t : Tree) × Grown nodes.now held t }
-    ensures { (t : Tree) → Grown nodes.now held t → result ≡ list_answer (accessing index) (marks t) }
+fn access_at(nodes: &[u64], tree: Root, index: u64) -> Answer
+    requires { TreeAt nodes.now tree levels }
+    ensures { (s : TreeAt nodes.now tree levels) → result ≡ list_answer (accessing index) (marks s.tree) }
 {
-    if held.length <= index {
-        return Answer::OutOfRange;
+    if tree.length <= index {
+        return Err(Refusal::OutOfRange);
     }
-    Answer::Done(tree::access(nodes, held.root, held.length, index) as u64)
+    Ok(tree.access(nodes, index) as u64)
 }
 
 // How many marks of a kind stand before a place.
-fn rank_at(nodes: &[u64], held: Held, place: u64, bit: bool) -> Answer
-    requires { (t : Tree) × Grown nodes.now held t }
-    ensures { (t : Tree) → Grown nodes.now held t
-        → result ≡ list_answer (ranking place bit) (marks t) }
+fn rank_at(nodes: &[u64], tree: Root, place: u64, bit: bool) -> Answer
+    requires { TreeAt nodes.now tree levels }
+    ensures { (s : TreeAt nodes.now tree levels) → result ≡ list_answer (ranking place bit) (marks s.tree) }
 {
-    if held.length < place {
-        return Answer::OutOfRange;
+    if tree.length < place {
+        return Err(Refusal::OutOfRange);
     }
-    Answer::Done(tree::rank(nodes, held.root, held.length, place, bit))
+    Ok(tree.rank(nodes, place, bit))
 }
 
 // The place of the k-th mark of a kind.
-fn select_at(nodes: &[u64], held: Held, k: u64, bit: bool) -> Answer
-    requires { (t : Tree) × Grown nodes.now held t }
-    ensures { (t : Tree) → Grown nodes.now held t → result ≡ list_answer (selecting k bit) (marks t) }
+fn select_at(nodes: &[u64], tree: Root, k: u64, bit: bool) -> Answer
+    requires { TreeAt nodes.now tree levels }
+    ensures { (s : TreeAt nodes.now tree levels) → result ≡ list_answer (selecting k bit) (marks s.tree) }
 {
     if k == 0 {
-        return Answer::NoZeroth;
+        return Err(Refusal::NoZeroth);
     }
-    match tree::select(nodes, held.root, held.length, bit, k) {
-        Found::At(at) => Answer::Done(at),
-        Found::TooFew => Answer::TooFew,
-    }
+    tree.select(nodes, bit, k).ok_or(Refusal::TooFew)
 }
 
 // Most quiet frames between two neighbouring strikes.
-fn quiet_of(nodes: &[u64], held: Held) -> Answer
-    requires { (t : Tree) × Grown nodes.now held t }
-    ensures { (t : Tree) → Grown nodes.now held t → result ≡ list_answer quiet (marks t) }
+fn quiet_of(nodes: &[u64], tree: Root) -> Answer
+    requires { TreeAt nodes.now tree levels }
+    ensures { (s : TreeAt nodes.now tree levels) → result ≡ list_answer quiet (marks s.tree) }
 {
-    Answer::Done(quiet::longest_quiet(nodes, held.root, held.length))
+    Ok(quiet::longest_quiet(nodes, tree))
 }
 
-// Serves one order. Its number chooses the call; a bit is 0 or 1, and a word that is not used is 0.
-pub fn serve(
-    nodes: &mut [u64],
-    held: Held,
-    may: bool,
-    number: u64,
-    second: u64,
-    third: u64,
-) -> Served
+// Serves the order of three words.
+pub fn serve(nodes: &mut [u64], held: Held, may: bool, order: [u64; ORDER_WORDS]) -> Served
     requires { (end : ℕ) × (p : Pool) × ToServe nodes.old end held may p }
     ensures { (end : ℕ) (p : Pool) → ToServe nodes.old end held may p
-        → Serves nodes.old nodes.new end may (asks number second third) p result }
+        → Serves nodes.old nodes.new end may (asked_by order) p result }
 {
-    match number {
-        INSERT => match third {
-            0 => insert_at(nodes, held, may, second, false),
-            1 => insert_at(nodes, held, may, second, true),
-            _ => unmoved(held, Answer::Malformed),
-        },
-        REMOVE => match third {
-            0 => remove_at(nodes, held, may, second),
-            _ => unmoved(held, Answer::Malformed),
-        },
-        ACCESS => match third {
-            0 => unmoved(held, access_at(nodes, held, second)),
-            _ => unmoved(held, Answer::Malformed),
-        },
-        RANK => match third {
-            0 => unmoved(held, rank_at(nodes, held, second, false)),
-            1 => unmoved(held, rank_at(nodes, held, second, true)),
-            _ => unmoved(held, Answer::Malformed),
-        },
-        SELECT => match third {
-            0 => unmoved(held, select_at(nodes, held, second, false)),
-            1 => unmoved(held, select_at(nodes, held, second, true)),
-            _ => unmoved(held, Answer::Malformed),
-        },
-        QUIET => match second {
-            0 => match third {
-                0 => unmoved(held, quiet_of(nodes, held)),
-                _ => unmoved(held, Answer::Malformed),
-            },
-            _ => unmoved(held, Answer::Malformed),
-        },
-        _ => unmoved(held, Answer::Malformed),
+    match Order::try_from(order) {
+        Ok(Order::Insert(index, bit)) => insert_at(nodes, held, may, index, bit),
+        Ok(Order::Remove(index)) => remove_at(nodes, held, may, index),
+        Ok(Order::Access(index)) => unmoved(held, access_at(nodes, held.tree, index)),
+        Ok(Order::Rank(end, bit)) => unmoved(held, rank_at(nodes, held.tree, end, bit)),
+        Ok(Order::Select(k, bit)) => unmoved(held, select_at(nodes, held.tree, k, bit)),
+        Ok(Order::Quiet) => unmoved(held, quiet_of(nodes, held.tree)),
+        Err(refusal) => unmoved(held, Err(refusal)),
     }
 }

@@ -10,7 +10,7 @@ use Rattle.model.specs.Edit.{remove}
 use Rattle.model.specs.Tree.{Tree, numbers, size}
 use Rattle.model.proofs.Distincts.{distinct_apart}
 use Rattle.pool.specs.Layout.{first_of}
-use Rattle.pool.specs.declared.chain.Chain.{Chain}
+use Rattle.tree.specs.declared.root.Held.{Held}
 use Rattle.shrink.specs.Removing.{Gone, RemovedFrom, ToRemoveFrom}
 use Rattle.shrink.proofs.Trimming.{NoneOrTwo, freed_few, freed_in}
 
@@ -27,8 +27,8 @@ unfolding first_of
 not_first a end [] past out e = past e
 not_first a end (k ∷ ks) past out e = out (mathlib.Core.List.Memᴰ.head e)
 
-module _ {w w' : List ℕ} {root total : ℕ} {chain : Chain} {index head : ℕ} {by : ℤ} {bit : Bool}
-    (q : ToRemoveFrom w root chain total index) (g : Gone q.place w' head by bit) where
+module _ {w w' : List ℕ} {h : Held} {index head : ℕ} {by : ℤ} {bit : Bool}
+    (q : ToRemoveFrom w h index) (g : Gone q.place w' head by bit) where
   abbrev tree : Tree
   tree = q.place.at.tree
 
@@ -42,7 +42,7 @@ module _ {w w' : List ℕ} {root total : ℕ} {chain : Chain} {index head : ℕ}
   few = freed_few index tree inside q.place.at.site.whole
 
   -- where two numbers were freed, the chain begins at the first of them, which is not where it did
-  moves : (a b : ℕ) → freed ≡ a ∷ b ∷ [] → head ≡ chain.first → ⊥
+  moves : (a b : ℕ) → freed ≡ a ∷ b ∷ [] → head ≡ h.chain.first → ⊥
   unfolding first_of
   moves a b e same =
       let s = q.place.at.site in
@@ -52,10 +52,10 @@ module _ {w w' : List ℕ} {root total : ℕ} {chain : Chain} {index head : ℕ}
       (distinct_apart (numbers tree) q.place.at.free s.once a m) (begins ∙ same ∙ sym s.first)
 
   -- where none were, it begins where it did
-  stays : freed ≡ [] → head ≡ chain.first
+  stays : freed ≡ [] → head ≡ h.chain.first
   stays e = sym (rw e at g.after.first) ∙ q.place.at.site.first
 
-  pub one_removed : head ≡ chain.first → RemovedFrom q w' (record { bit = bit; chain = chain })
+  pub one_removed : head ≡ h.chain.first → RemovedFrom q w' (record { bit = bit; chain = h.chain })
   one_removed same =
       freed_cases freed few
       (λ e. record {
@@ -67,7 +67,8 @@ module _ {w w' : List ℕ} {root total : ℕ} {chain : Chain} {index head : ℕ}
       })
       (λ a b e. absurd (moves a b e same))
 
-  pub two_freed : (head ≡ chain.first → ⊥) → RemovedFrom q w' (record { bit = bit; chain = record { first = head; count = chain.count + 2 } })
+  pub two_freed : (head ≡ h.chain.first → ⊥)
+      → RemovedFrom q w' (record { bit = bit; chain = record { first = head; count = h.chain.count + 2 } })
   two_freed other =
       freed_cases freed few
       (λ e. absurd (other (stays e)))

@@ -240,7 +240,7 @@ module _ {w : List ℕ} {n levels head total index : ℕ} {f : Fork} {s : Step}
   less = remove_size s.index old in_child
 
   -- the mark can be taken out of the child
-  pub to_child : ToRemove w s.child (levels - 1) head s.length s.index
+  pub to_child : ToRemove w s.child.node (levels - 1) head s.child.length s.index
   to_child = record { at = child_stands b.at d (λ k m. refl); within = d.child.below b.within }
 
   module _ {v : List ℕ} {head' : ℕ} {by : ℤ} {bit : Bool} (done : Gone to_child v head' by bit) where
@@ -279,7 +279,7 @@ module _ {w : List ℕ} {n levels head total index : ℕ} {f : Fork} {s : Step}
 
       -- ---- a child that is not short: the fork is balanced
 
-      module _ (long : 33 < s.length) where
+      module _ (long : 33 < s.child.length) where
         whole : {x : List ℕ} {grown : ℤ} → After w x b.at.end head' grown (fork n l r) (rebalance n first second) b.at.free free'
             → Gone b x head' grown bit
         whole a =
@@ -299,7 +299,7 @@ module _ {w : List ℕ} {n levels head total index : ℕ} {f : Fork} {s : Step}
 
       -- ---- a short one: the fork is mended
 
-      module _ (few : s.length ≤ 33) where
+      module _ (few : s.child.length ≤ 33) where
         lessened : Lessened old cut
         lessened =
             small_lessened 1 s.index old (omega arith) (side_sized s.left n l r d.site.whole) (omega (arith, d.child.total_is))

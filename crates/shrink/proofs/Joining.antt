@@ -1,6 +1,6 @@
 -- A fork of which one child is a leaf with too few marks: joined to the leaf next to it, or lent a mark by it. The calls
 -- of each side ask for other things, and each has a law for that; what they leave is said once for both.
-use Prim.Native.Nat.{ℕ, suc, ◌+◌, ◌-◌, ◌^◌, ◌<◌}
+use Prim.Native.Nat.{ℕ, suc, ◌+◌, ◌-◌, ◌^◌, ◌≤◌, ◌<◌}
 use native.Mathlib.Omega.{arith}
 use mathlib.Core.Path.{◌≡◌, refl, sym, ap, ◌∙◌}
 use mathlib.Core.Bool.{Bool, true, false}
@@ -22,13 +22,15 @@ use Rattle.pool.specs.Node.{OfTree, fork_cell, fork_in, leaf_in, node_at, nodes_
 use Rattle.pool.specs.declared.node.Fork.{Fork}
 use Rattle.pool.specs.declared.node.Node.TheVariants.{Leaf as leaf, Fork as fork}
 use Rattle.pool.proofs.Cells.{fork_says}
+use Rattle.tree.specs.Stepping as Stepping
+use Rattle.tree.specs.TreeAt.{TreeAt, tree_at}
 use Rattle.spine.specs.Edges.{Editable, ToPutBefore, ToPutAfter, ToDropFirst, ToDropLast, Taken}
 use Rattle.spine.proofs.Edits.{fork_left, fork_right}
 use Rattle.model.specs.Side.{side}
 use Rattle.turn.proofs.Read.{Fields, fields}
 use Rattle.descent.specs.SiteAt.{one_more}
 use Rattle.descent.proofs.Digits.{byte_digit, count_cons}
-use Rattle.shrink.specs.Mending.{Lent, Merged, Over, Short, ToBorrow, ToMerge, ToUncount, joined, one_less}
+use Rattle.shrink.specs.Mending.{Lent, Merged, Over, Short, ToBorrow, ToMeasure, ToMerge, ToUncount, joined, one_less}
 use Rattle.shrink.proofs.Parts.{apart, forked, merged, once_child, once_other, rooted_same, top_not_child, top_not_other}
 
 -- ---- leaves
@@ -84,6 +86,20 @@ rooted_other : {w : List ℕ} {levels : ℕ} {f : Fork} (left : Bool) (o : Over 
     → Rooted w (side left f.right f.left) levels (side left o.r o.l)
 rooted_other true o = o.right_rooted
 rooted_other false o = o.left_rooted
+
+-- each child, told by its root
+module _ {w : List ℕ} {levels total : ℕ} {f : Fork} (b : ToMeasure w levels f total) where
+  pub over_tells : Fields f b.over.l b.over.r
+  over_tells = fields f b.over.l b.over.r b.over.is
+
+  pub left_within : f.left_total ≤ total
+  left_within = omega (arith, over_tells.total, b.total_is)
+
+  abbrev pub left_at : TreeAt w (Stepping.left_child f) levels
+  left_at = tree_at b.over.l b.over.left_rooted (sym over_tells.total)
+
+  abbrev pub right_at : TreeAt w (Stepping.right_child f total) levels
+  right_at = tree_at b.over.r b.over.right_rooted (omega (arith, over_tells.total, b.total_is))
 
 module _ {w : List ℕ} {n levels : ℕ} {f : Fork} {left : Bool} (s : Short w n levels f left) where
   abbrev l : Tree
@@ -142,7 +158,7 @@ module _ {w : List ℕ} {n levels : ℕ} {f : Fork} where
     merge_left_fits = let total = (tells b.short).total in let few = b.short.few in omega arith
 
   pub merge_right_asks : {x : Leaf} (b : ToMerge w n levels f false) → x ≡ leaf_in (node_at w f.right)
-      → ToPutAfter w f.left levels f.left_total x (l b.short) (marks (r b.short))
+      → ToPutAfter w (Stepping.left_child f) levels x (l b.short) (marks (r b.short))
   merge_right_asks b read =
       let s = b.short in
       let long = size_marks (r s) in
@@ -217,7 +233,7 @@ module _ {w : List ℕ} {n levels : ℕ} {f : Fork} (b : ToBorrow w n levels f t
   borrow_left_asks = record { tree = other_editable b.short; some = let rich = b.rich in omega arith }
 
   module _ {v : List ℕ} {bit : Bool} (d : Taken w v right_child (first_mark right_child) (drop_first right_child) bit) where
-    pub borrow_left_puts : {x : Leaf} → x ≡ leaf_of (bit ∷ []) → ToPutAfter v f.left levels f.left_total x left_child (bit ∷ [])
+    pub borrow_left_puts : {x : Leaf} → x ≡ leaf_of (bit ∷ []) → ToPutAfter v (Stepping.left_child f) levels x left_child (bit ∷ [])
     borrow_left_puts held =
         record {
           tree = child_stays b.short d.edited;
@@ -257,7 +273,7 @@ module _ {w : List ℕ} {n levels : ℕ} {f : Fork} (b : ToBorrow w n levels f f
   abbrev last_child : Tree
   last_child = r b.short
 
-  pub borrow_right_asks : ToDropLast w f.left levels f.left_total first_child
+  pub borrow_right_asks : ToDropLast w (Stepping.left_child f) levels first_child
   borrow_right_asks =
       record { tree = other_editable b.short; total = sym (tells b.short).total; some = let rich = b.rich in omega arith }
 

@@ -15,10 +15,10 @@ use Rattle.shrink.proofs.removing.remove.Reads as remove
 use Rattle.shrink.proofs.removing.remove.Kinds as remove_kinds
 
 pub remove_pinned : (κs : _) (a : Dens {n = 1} κs remove_kinds.ps) (r r' : _) (w w' : _) (n : ℕ) → Unbroken n a.0.now
-    → ToRemoveFrom a.0.now a.1.0 a.1.1.1.0 a.1.1.0 a.1.1.1.1.0 → remove.Post κs a r w → remove.Post κs a r' w'
+    → ToRemoveFrom a.0.now a.1.0 a.1.1.0 → remove.Post κs a r w → remove.Post κs a r' w'
     → (r ≡ r') × (w.0.now ≡ w'.0.now)
 remove_pinned κs a r r' w w' n whole b one other =
-    let index : ℕ = a.1.1.1.1.0 in
+    let index : ℕ = a.1.1.0 in
     let place = b.place in
     let at = place.at in
     let s = at.site in

@@ -7,7 +7,7 @@ use Rattle.model.specs.Limits.{levels}
 use Rattle.model.specs.Marks.{access}
 use Rattle.model.specs.Tree.{marks, numbers}
 use Rattle.pool.specs.Layout.{Chained, Edited, first_of}
-use Rattle.pool.specs.declared.chain.Chain.{Chain}
+use Rattle.tree.specs.declared.root.Held.{Held}
 use Rattle.turn.specs.Sites.{After}
 use Rattle.descent.specs.SiteAt.{SiteAt}
 use Rattle.shrink.specs.declared.removing.Removed.{Removed}
@@ -30,15 +30,15 @@ pub record Gone {w : List ℕ} {n levels head total index : ℕ} (b : ToRemove w
   pub mark : bit ≡ access index (marks b.at.tree)
 
 -- the same of a whole pool: the chain is told by its first number and its length, and its end is no number of the tree
-pub record ToRemoveFrom (w : List ℕ) (root : ℕ) (chain : Chain) (total index : ℕ) : Type 0 where
-  pub place : ToRemove w root levels chain.first total index
-  pub count_is : length place.at.free ≡ chain.count
+pub record ToRemoveFrom (w : List ℕ) (h : Held) (index : ℕ) : Type 0 where
+  pub place : ToRemove w h.tree.node levels h.chain.first h.tree.length index
+  pub count_is : length place.at.free ≡ h.chain.count
   pub past : Memᴰ place.at.end (numbers place.at.tree) → ⊥
-  pub fits : chain.count + 2 < 2 ^ 64
+  pub fits : h.chain.count + 2 < 2 ^ 64
 
 -- what is left in the words, and what is handed back
-pub record RemovedFrom {w : List ℕ} {root : ℕ} {chain : Chain} {total index : ℕ}
-    (b : ToRemoveFrom w root chain total index) (w' : List ℕ) (r : Removed) : Type 0 where
+pub record RemovedFrom {w : List ℕ} {h : Held} {index : ℕ}
+    (b : ToRemoveFrom w h index) (w' : List ℕ) (r : Removed) : Type 0 where
   pub edited :
       Edited w w' (numbers b.place.at.tree ++ b.place.at.free) (remove index b.place.at.tree).tree
   pub chained : Chained w' b.place.at.end (with_freed b.place)

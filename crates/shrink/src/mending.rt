@@ -4,13 +4,15 @@ ghost use Rattle.std.specs.Prelude.{◌≡◌, [], ◌∷◌, ◌+◌, ◌<◌, 
 ghost use Rattle.std.proofs.Math.ListN as ListN;
 ghost use Rattle.bits.specs.Leaf.{leaf_of};
 ghost use Rattle.pool.specs.Node.{fork_cell, fork_in, node_at, put};
+ghost use Rattle.tree.specs.Stepping.{left_child};
 ghost use Rattle.descent.specs.SiteAt.{one_more};
 ghost use Rattle.shrink.specs.Mending.{Lent, Mended, Merged, ToBorrow, ToMeasure, ToMend, ToMerge, ToUncount};
 ghost use Rattle.shrink.specs.Mending.{both_freed, next_leaf, one_less};
 
 use bits::Leaf;
-use pool::{Fork, LEAF_LEAST, fork_at, leaf_at, less_left, move_node, set_fork, set_free};
+use pool::{Fork, Free, LEAF_LEAST, fork_at, leaf_at, less_left, move_node, set_node};
 use spine::{drop_first, drop_last, first_leaf_size, last_leaf_size, put_after, put_before};
+use tree::Root;
 
 // A leaf of one mark.
 fn lone(bit: bool) -> Leaf
@@ -28,11 +30,9 @@ fn more_left(fork: Fork, bit: bool) -> Fork
     ensures { result ≡ one_more fork bit }
 {
     Fork {
-        left: fork.left,
-        right: fork.right,
         left_total: fork.left_total + 1,
         left_ones: fork.left_ones + bit as u64,
-        balance: fork.balance,
+        ..fork
     }
 }
 
@@ -45,6 +45,16 @@ pub fn uncount(nodes: &mut [u64], n: u64, left: bool, bit: bool)
     less_left(nodes, n, left as u64, (left & bit) as u64);
 }
 
+// The tree at the left child.
+fn left_tree(fork: Fork) -> Root
+    ensures { result ≡ left_child fork }
+{
+    Root {
+        node: fork.left,
+        length: fork.left_total,
+    }
+}
+
 // How many marks the leaf next to a child holds, of a fork that holds `length`.
 fn next_size(nodes: &[u64], fork: Fork, left: bool, length: u64, levels: u64) -> u64
     requires { ToMeasure nodes.now levels fork length }
@@ -52,9 +62,13 @@ fn next_size(nodes: &[u64], fork: Fork, left: bool, length: u64, levels: u64) ->
         → result ≡ ListN.length (next_leaf left b.over.l b.over.r) }
 {
     if left {
-        return first_leaf_size(nodes, fork.right, length - fork.left_total, levels);
+        let right = Root {
+            node: fork.right,
+            length: length - fork.left_total,
+        };
+        return first_leaf_size(nodes, right, levels);
     }
-    last_leaf_size(nodes, fork.left, fork.left_total, levels)
+    last_leaf_size(nodes, left_tree(fork), levels)
 }
 
 // The short child is joined to the leaf next to it. The content of the other child's top moves to the number n.
@@ -76,7 +90,7 @@ fn merge(nodes: &mut [u64], n: u64, fork: Fork, left: bool, levels: u64)
         return;
     }
     let leaf = leaf_at(nodes, fork.right);
-    put_after(nodes, fork.left, fork.left_total, leaf, levels);
+    put_after(nodes, left_tree(fork), leaf, levels);
     move_node(nodes, fork.left, n);
 }
 
@@ -85,8 +99,8 @@ fn free_children(nodes: &mut [u64], head: &mut u64, fork: Fork)
     ensures head_after { head.new ≡ fork.right }
     ensures nodes_after { nodes.new ≡ both_freed nodes.old head.old fork }
 {
-    set_free(nodes, fork.left, *head);
-    set_free(nodes, fork.right, fork.left);
+    set_node(nodes, fork.left, Free(*head));
+    set_node(nodes, fork.right, Free(fork.left));
     *head = fork.right;
 }
 
@@ -97,11 +111,11 @@ fn borrow(nodes: &mut [u64], n: u64, fork: Fork, left: bool, levels: u64)
 {
     if left {
         let bit = drop_first(nodes, fork.right, levels);
-        put_after(nodes, fork.left, fork.left_total, lone(bit), levels);
-        set_fork(nodes, n, more_left(fork, bit));
+        put_after(nodes, left_tree(fork), lone(bit), levels);
+        set_node(nodes, n, more_left(fork, bit));
         return;
     }
-    let bit = drop_last(nodes, fork.left, fork.left_total, levels);
+    let bit = drop_last(nodes, left_tree(fork), levels);
     put_before(nodes, fork.right, lone(bit), 1, bit as u64, levels);
     uncount(nodes, n, true, bit);
 }

@@ -1,13 +1,13 @@
 -- What an answer says where the fact holds, and where it does not.
-use Prim.Native.Nat.{ℕ, ◌≤◌}
+use Prim.Native.Nat.{ℕ}
 use native.Mathlib.Omega.{arith}
 use mathlib.Core.Path.{◌≡◌, refl}
 use mathlib.Core.Bool.{Bool, true, false}
-use borrow.Author.Tests.{eqb-true, eq-eqb, leb-true, le-leb}
-use lib.Dec.{eqb, leb}
+use borrow.Author.Tests.{eqb-true, eq-eqb}
+use lib.Dec.{eqb}
 use Rattle.bits.specs.declared.leaf.Leaf.{Leaf}
 use Rattle.pool.specs.declared.node.Fork.{Fork}
-use Rattle.pool.specs.declared.node.Node.TheVariants.{Free as free, Leaf as leaf, Fork as fork, Broken as bad}
+use Rattle.pool.specs.declared.node.Node.TheVariants.{Free as free, Leaf as leaf, Fork as fork}
 use Rattle.model.specs.Says.{Says}
 
 -- no answer is both
@@ -23,9 +23,6 @@ module _ {P : Type 0} where
   pub says_same : (m n : ℕ) → (m ≡ n → P) → (P → m ≡ n) → Says P (eqb m n)
   says_same m n p q = record { yes = λ e. p (eqb-true m n e); no = λ h. eq-eqb m n (q h) }
 
-  pub says_most : (m n : ℕ) → (m ≤ n → P) → (P → m ≤ n) → Says P (leb m n)
-  says_most m n p q = record { yes = λ e. p (leb-true m n e); no = λ h. le-leb m n (q h) }
-
 -- ---- no node is of two kinds
 
 pub no_leaf : {A : Type 0} {x : Leaf} {k : ℕ} → leaf x ≡ free k → A
@@ -33,6 +30,3 @@ no_leaf e = let z : ◌≡◌ {A = ℕ} 0 1 = cc in absurd (omega arith)
 
 pub no_fork : {A : Type 0} {f : Fork} {k : ℕ} → fork f ≡ free k → A
 no_fork e = let z : ◌≡◌ {A = ℕ} 0 1 = cc in absurd (omega arith)
-
-pub no_broken : {A : Type 0} {k : ℕ} → bad ≡ free k → A
-no_broken e = let z : ◌≡◌ {A = ℕ} 0 1 = cc in absurd (omega arith)

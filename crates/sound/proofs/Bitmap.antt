@@ -5,7 +5,7 @@ use native.Mathlib.Omega.{arith}
 use mathlib.Core.Path.{◌≡◌, refl, sym, ap, ◌∙◌}
 use mathlib.Core.Bool.{true, false}
 use mathlib.Core.List.Memᴰ
-use mathlib.Core.List.{List, ◌++◌}
+use mathlib.Core.List.{List, [], ◌∷◌, ◌++◌}
 use mathlib.Core.Logic.{◌⊎◌, inl, inr, ⊎_elim}
 use borrow.Author.Tests.{eqb-true, eqb-false, eq-eqb}
 use lib.Bits.{bit_or, or_step, or_shr}
@@ -16,6 +16,7 @@ use lib.Seq.{get_or-set_same, get_or-set_other}
 use Rattle.model.specs.Word.{odd}
 use Rattle.model.proofs.Cases.{by_test, by_ltb}
 use Rattle.sound.specs.Met.{met_at, Fresh, Marked, Meets}
+use Rattle.sound.specs.declared.met.Met.{Met}
 use Rattle.sound.proofs.Answers.{never}
 use Rattle.model.proofs.Distincts.{distinct_join, distinct_first, distinct_second, distinct_apart}
 
@@ -147,39 +148,38 @@ module _ (met : List ℕ) (n : ℕ) (here : n / 64 < length met) where
       (λ ne. inr (sym (other_word k ne) ∙ e))
 
   -- a bit that was clear is set now, and no other
-  pub meet_yes : {room : ℕ} → 1 < room → (bit : ℕ) → bit ≡ 2 ^ (n % 64) → word / 2 ^ (n % 64) % 2 ≡ 0
-      → Meets met (set met (n / 64) (bit_or word bit)) n room true
-  meet_yes some bit one clear =
-      rw one record {
-        yes = λ _. (
-          some,
-          record {
-            distinct = (Memᴰ.not-nil, tt);
-            room = λ k h. rw (Memᴰ.eq_of_singleton h) (omega arith);
-            unmet = λ k h. rw (Memᴰ.eq_of_singleton h) (met_word n refl ∙ even_is _ clear);
-          },
-          record {
-            size = length-set met (n / 64) (bit_or word (2 ^ (n % 64)));
-            here = λ k h. rw (Memᴰ.eq_of_singleton h) mark_here;
-            kept = mark_kept;
-            only = λ k e. ⊎_elim (λ same. inl (Memᴰ.head same)) inr (mark_only k e);
-          },
-        );
-        no = λ _ _. refl;
-      }
+  meet_set : (bit : ℕ) → bit ≡ 2 ^ (n % 64) → word / 2 ^ (n % 64) % 2 ≡ 0
+      → Fresh met (n ∷ []) × Marked met (set met (n / 64) (bit_or word bit)) (n ∷ [])
+  meet_set bit one clear =
+      rw one (
+        record {
+          distinct = (Memᴰ.not-nil, tt);
+          room = λ k h. rw (Memᴰ.eq_of_singleton h) (omega arith);
+          unmet = λ k h. rw (Memᴰ.eq_of_singleton h) (met_word n refl ∙ even_is _ clear);
+        },
+        record {
+          size = length-set met (n / 64) (bit_or word (2 ^ (n % 64)));
+          here = λ k h. rw (Memᴰ.eq_of_singleton h) mark_here;
+          kept = mark_kept;
+          only = λ k e. ⊎_elim (λ same. inl (Memᴰ.head same)) inr (mark_only k e);
+        },
+      )
 
   -- a bit that was set
-  pub meet_no : {room : ℕ} (met' : List ℕ) → (word / 2 ^ (n % 64) % 2 ≡ 0 → ⊥) → Meets met met' n room false
-  meet_no met' set =
-      record {
-        yes = λ e. never e refl;
-        no = λ _ f. absurd (set (even_says _ (sym (met_word n refl) ∙ f.unmet n (Memᴰ.head refl))));
-      }
+  met_before : (word / 2 ^ (n % 64) % 2 ≡ 0 → ⊥) → Fresh met (n ∷ []) → ⊥
+  met_before set f = set (even_says _ (sym (met_word n refl) ∙ f.unmet n (Memᴰ.head refl)))
 
--- there is no such bit
-pub meet_out : {room : ℕ} (met met' : List ℕ) (n : ℕ) → length met ≤ n / 64 → Meets met met' n room false
-meet_out met met' n h = record { yes = λ e. never e refl; no = λ _ f. absurd (omega (arith, f.room n (Memᴰ.head refl))) }
+module _ (m m' : Met) (n : ℕ) where
+  pub meet_yes : (here : n / 64 < length m.words) → m'.room + 1 ≡ m.room → (bit : ℕ) → bit ≡ 2 ^ (n % 64)
+      → get_or m.words (n / 64) 0 / 2 ^ (n % 64) % 2 ≡ 0 → m'.words ≡ set m.words (n / 64) (bit_or (get_or m.words (n / 64) 0) bit)
+      → Meets m m' n true
+  meet_yes here room bit one clear e =
+      let met = meet_set m.words n here bit one clear in
+      record { yes = λ _. (room, met.0, rw e met.1); no = λ _ _. refl }
 
--- there is no room
-pub meet_full : {room : ℕ} (met met' : List ℕ) (n : ℕ) → room ≤ 1 → Meets met met' n room false
-meet_full met met' n h = record { yes = λ e. never e refl; no = λ some _. absurd (omega arith) }
+  pub meet_no : (here : n / 64 < length m.words) → (get_or m.words (n / 64) 0 / 2 ^ (n % 64) % 2 ≡ 0 → ⊥) → Meets m m' n false
+  meet_no here set = record { yes = λ e. never e refl; no = λ _ f. absurd (met_before m.words n here set f) }
+
+  -- there is no such bit
+  pub meet_out : length m.words ≤ n / 64 → Meets m m' n false
+  meet_out h = record { yes = λ e. never e refl; no = λ _ f. absurd (omega (arith, f.room n (Memᴰ.head refl))) }

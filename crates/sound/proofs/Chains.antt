@@ -59,10 +59,6 @@ pub record Passed (w : List ℕ) (end n₀ left₀ n left : ℕ) : Type 0 where
   pub back : Linked w end n left → Linked w end n₀ left₀
   pub forth : Linked w end n₀ left₀ → Linked w end n left
 
--- at first none
-pub passed_none : (w : List ℕ) (end n left : ℕ) → Passed w end n left n left
-passed_none w end n left = record { back = λ l. l; forth = λ l. l }
-
 -- a chain that is not at its end begins with a free node
 begins : {w : List ℕ} {end n left : ℕ} (ks : List ℕ) → 1 ≤ left → Links w end n left ks → (next : ℕ) × (node_at w n ≡ free next)
 unfolding first_of
@@ -99,9 +95,9 @@ at_end (m ∷ ks) none k = absurd (omega (arith, k.counts))
 
 module _ {w : List ℕ} {end n₀ left₀ n left : ℕ} (p : Passed w end n₀ left₀ n left) where
   -- one link more
-  pub passed_more : {next : ℕ} → node_at w n ≡ free next → 1 ≤ left → Passed w end n₀ left₀ next (left - 1)
-  passed_more read some =
-      record {
+  pub passed_more : {next rest : ℕ} → node_at w n ≡ free next → 1 ≤ left → rest ≡ left - 1 → Passed w end n₀ left₀ next rest
+  passed_more read some e =
+      rw e record {
         back = λ l. p.back (n ∷ l.0, link_back read some l.0 l.1);
         forth = λ l. let k = p.forth l in link_forth read some k.0 k.1;
       }

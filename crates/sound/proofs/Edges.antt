@@ -2,10 +2,12 @@
 -- is the rest of its strikes and of its levels.
 use Prim.Native.Nat.{ℕ, ◌+◌, ◌-◌, ◌≤◌, max}
 use native.Mathlib.Omega.{arith}
-use mathlib.Core.Path.{◌≡◌}
+use mathlib.Core.Path.{◌≡◌, sym, ap}
+use Rattle.std.specs.Prelude.{None, Some}
+use Rattle.std.proofs.lemmas.Option.{none-some}
 use mathlib.Core.Bool.{Bool, true}
 use mathlib.Core.List.{List}
-use lib.ListN.{length, take, length-take}
+use lib.ListN.{take, length-take}
 use Rattle.model.specs.Marks.{count, rank, wanted}
 use Rattle.model.specs.Tree.{Tree}
 use Rattle.model.proofs.Counting.{ones_le}
@@ -40,46 +42,39 @@ pub record Down (w : List ℕ) (root length n total ones left : ℕ) : Type 0 wh
   pub on : (least strikes depth : ℕ) (t : Tree) → Part w least root length strikes depth t → depth ≤ most_levels
       → Rest w least n total ones left strikes depth
 
--- at first
-pub down_none : (w : List ℕ) (root length : ℕ) → Down w root length root length 0 most_levels
-down_none w root length =
-    record {
-      fits = omega arith;
-      few = omega arith;
-      on = λ least strikes depth t p h. record { own = strikes; low = depth; tree = t; part = p; sum = omega arith; high = omega arith };
-    }
-
 module _ {w : List ℕ} {root length n total ones left : ℕ} (d : Down w root length n total ones left) where
   -- nothing stands there
-  told_none : (e : Edge) → e.levels ≡ 0 → ((least own low : ℕ) (t : Tree) → Part w least n total own low t → low ≤ left → ⊥) → Told w root length e
-  told_none e none out =
+  told_none : ((least own low : ℕ) (t : Tree) → Part w least n total own low t → low ≤ left → ⊥) → Told w root length None
+  told_none out =
       record {
-        low = omega arith;
+        low = λ e is. absurd (none-some e is);
         so = λ least strikes depth t p h. let r = d.on least strikes depth t p h in
             absurd (out least r.own r.low r.tree r.part (omega (arith, r.high)));
       }
 
-  pub told_free : (e : Edge) → e.levels ≡ 0 → (k : ℕ) → node_at w n ≡ free k → Told w root length e
-  told_free e none k read = told_none e none (λ least own low t p h. part_free t k read p)
+  pub told_free : (k : ℕ) → node_at w n ≡ free k → Told w root length None
+  told_free k read = told_none (λ least own low t p h. part_free t k read p)
 
-  pub told_broken : (e : Edge) → e.levels ≡ 0 → node_at w n ≡ broken → Told w root length e
-  told_broken e none read = told_none e none (λ least own low t p h. part_broken t read p)
+  pub told_broken : node_at w n ≡ broken → Told w root length None
+  told_broken read = told_none (λ least own low t p h. part_broken t read p)
 
   -- the edge is too long
-  pub told_long : (e : Edge) → e.levels ≡ 0 → left ≡ 0 → Told w root length e
-  told_long e none end = told_none e none (λ least own low t p h. omega (arith, p.tall))
+  pub told_long : left ≡ 0 → Told w root length None
+  told_long end = told_none (λ least own low t p h. omega (arith, p.tall))
 
   -- a leaf ends it
   pub told_leaf : (x : Leaf) → node_at w n ≡ leaf x → 1 ≤ left → (e : Edge) → e.ones ≡ ones + rank true total (bits_of x)
-      → e.levels + left ≡ most_levels + 1 → Told w root length e
+      → e.levels + left ≡ most_levels + 1 → Told w root length (Some e)
   unfolding rank
   told_leaf x read some e sum high =
       record {
-        low = omega arith;
+        low = λ g is. let same : e ≡ g = cc in rw (sym same) (omega arith);
         so = λ least strikes depth t p h.
             let r = d.on least strikes depth t p h in
             let f = (part_leaf x read r.tree r.part).0 in
-            (omega (arith, f.ones, r.sum), omega (arith, f.low, r.high));
+            let o : e.ones ≡ strikes = omega (arith, f.ones, r.sum) in
+            let l : e.levels ≡ depth = omega (arith, f.low, r.high) in
+            ap Some (λ i. record { ones = o i; levels = l i });
       }
 
   module _ (f : Fork) (read : node_at w n ≡ fork f) where
@@ -97,8 +92,8 @@ module _ {w : List ℕ} {root length n total ones left : ℕ} (d : Down w root l
           ones = omega (arith, h.left.ones, h.left.counts, count_size l);
         })
 
-    pub told_untrue : (e : Edge) → e.levels ≡ 0 → (Agrees f total f.left_total left → ⊥) → Told w root length e
-    told_untrue e none out = told_none e none (λ least own low t p h. out (fork_true t p h))
+    pub told_untrue : (Agrees f total f.left_total left → ⊥) → Told w root length None
+    told_untrue out = told_none (λ least own low t p h. out (fork_true t p h))
 
     -- what is left is its right child's
     rest_more : {least strikes depth : ℕ} (own low : ℕ) (t : Tree) → 2 ≤ left → Part w least n total own low t → ones + own ≡ strikes

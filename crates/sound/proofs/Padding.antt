@@ -2,7 +2,12 @@
 use Prim.Native.Nat.{ℕ, zero, suc, ◌+◌, ◌-◌, ◌≤◌}
 use native.Mathlib.Omega.{arith}
 use mathlib.Core.Path.{◌≡◌, refl, sym, ap, ap₂, ◌∙◌}
-use mathlib.Core.Bool.{Bool, true, false}
+use mathlib.Core.Bool.{Bool, true, false, ◌&&◌}
+use borrow.Author.Tests.{eqb-true, eq-eqb}
+use lib.Dec.{eqb}
+use Rattle.std.specs.Cmp.{first_so, second_so}
+use Rattle.std.specs.Cmp.Derive.{both_true}
+use Rattle.model.specs.Says.{Says}
 use mathlib.Core.List.{List, ◌++◌}
 use lib.ListN.{length, take, replicate, length-append, replicate-append-replicate}
 use lib.Seq.{take_all, take-append_seam, length-take-le}
@@ -36,13 +41,20 @@ module _ (x : Leaf) (n : ℕ) where
   cut_held = ap (λ (ys : List Bool). leaf_of (held x n ++ ys)) (ap₂ (λ (xs ys : List Bool). xs ++ ys) (bits_zero 64) (bits_zero 64)
       ∙ replicate-append-replicate 64 64 false) ∙ leaf_padded 128 (held x n)
 
-  module _ (cut : Leaf) (e : cut ≡ leaf_of (held x n ++ bits_of (record { low = 0; high = 0 }))) where
-    -- it is the same leaf exactly where there was nothing to cut
-    pub cut_none : cut.low ≡ x.low → cut.high ≡ x.high → x ≡ leaf_of (held x n)
-    cut_none p q = let same : cut ≡ x = λ i. record { low = p i; high = q i } in sym same ∙ e ∙ cut_held
-
-    pub none_cut : x ≡ leaf_of (held x n) → cut ≡ x
-    none_cut ends = e ∙ cut_held ∙ sym ends
+  -- it is the same leaf exactly where there was nothing to cut
+  pub cut_says : {cut : Leaf} {r : Bool} → cut ≡ leaf_of (held x n ++ bits_of (record { low = 0; high = 0 }))
+      → r ≡ eqb cut.low x.low && eqb cut.high x.high → Says (x ≡ leaf_of (held x n)) r
+  cut_says {cut} {r} e is =
+      let all : cut ≡ leaf_of (held x n) = e ∙ cut_held in
+      rw is record {
+        yes = λ t.
+            let low = eqb-true cut.low x.low (first_so (eqb cut.low x.low) (eqb cut.high x.high) t) in
+            let high = eqb-true cut.high x.high (second_so (eqb cut.low x.low) (eqb cut.high x.high) t) in
+            let same : cut ≡ x = λ i. record { low = low i; high = high i } in
+            sym same ∙ all;
+        no = λ h. let same : cut ≡ x = all ∙ sym h in
+            both_true (eq-eqb cut.low x.low (ap (λ (y : Leaf). y.low) same)) (eq-eqb cut.high x.high (ap (λ (y : Leaf). y.high) same));
+      }
 
   -- as many bits are set as before the end of the marks
   pub held_ends : n ≤ 128 → x ≡ leaf_of (held x n) → count true (held x n) ≡ rank true 128 (bits_of x)

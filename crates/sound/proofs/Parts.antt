@@ -1,6 +1,6 @@
 -- A visit, case by case: what was read at a node, and what its children's visits answered, tell which trees stand there. A visit of a fork is one
 -- of its left child and then one of its right child, with the room that the first has left.
-use Prim.Native.Nat.{ℕ, suc, ◌+◌, ◌-◌, ◌≤◌, ◌<◌, max}
+use Prim.Native.Nat.{ℕ, suc, ◌+◌, ◌-◌, ◌≤◌, max}
 use native.Mathlib.Omega.{arith}
 use mathlib.Core.Path.{◌≡◌, refl, sym, ap, ◌∙◌}
 use mathlib.Core.Bool.{Bool, true, false}
@@ -18,7 +18,10 @@ use Rattle.pool.specs.declared.node.Fork.{Fork}
 use Rattle.pool.specs.declared.node.Node.{Node}
 use Rattle.pool.specs.declared.node.Node.TheVariants.{Free as free, Leaf as leaf, Fork as fork, Broken as broken}
 use Rattle.sound.specs.Met.{Fresh, Marked, Meets}
-use Rattle.sound.specs.Part.{Agrees, Filled, Part, Walked, Visited, held}
+use Rattle.model.specs.Says.{Says}
+use Rattle.sound.specs.Part.{Agrees, Filled, Part, Stands, Walked, Visited, held, left_claim, right_claim}
+use Rattle.sound.specs.declared.met.Met.{Met}
+use Rattle.sound.specs.declared.visit.Claim.{Claim}
 use Rattle.sound.proofs.Answers.{never}
 use Rattle.sound.proofs.Bitmap.{fresh_first, fresh_second, fresh_join, marked_join}
 use Rattle.sound.proofs.Padding.{held_of, held_length}
@@ -214,6 +217,25 @@ module _ {w : List ℕ} {least n total strikes levels : ℕ} where
         tall = high.3;
       }
 
+  -- ---- what stands where so many levels are claimed
+
+  -- no leaf has two levels, and no fork has one
+  pub low_leaf : levels ≤ 1 → (t : Tree) → Part w least n total strikes levels t
+      → (x : Leaf) × (node_at w n ≡ leaf x) × Filled x total strikes least levels
+  unfolding height
+  low_leaf low (Tree.leaf m xs) p =
+      let read = part_top (Tree.leaf m xs) p in
+      (leaf_of xs, read, (part_leaf (leaf_of xs) read (Tree.leaf m xs) p).0)
+  low_leaf low (Tree.fork m l r) p = absurd (omega (arith, p.tall))
+
+  pub high_fork : 2 ≤ levels → (t : Tree) → Part w least n total strikes levels t
+      → (f : Fork) × (node_at w n ≡ fork f) × Agrees f total strikes levels
+  unfolding height
+  high_fork high (Tree.leaf m xs) p = absurd (omega (arith, p.tall))
+  high_fork high (Tree.fork m l r) p =
+      let read = part_top (Tree.fork m l r) p in
+      (fork_of l r, read, (forked (fork_of l r) m l r read p).agrees)
+
 -- ---- the nodes of a fork's tree
 
 fork_nodes : (m : ℕ) (l r : Tree) → length (numbers (Tree.fork m l r)) ≡ length (numbers l) + length (numbers r) + 1
@@ -232,109 +254,101 @@ module _ {met met₁ : List ℕ} {n : ℕ} (m : ℕ) (l r : Tree) (e : m ≡ n) 
 
 -- ---- what a visit answers
 
-module _ {w : List ℕ} {least : ℕ} {met : List ℕ} {n total strikes levels room : ℕ} where
+module _ {w : List ℕ} {m : Met} {c : Claim} where
   -- every tree is ruled out
-  refused : {met' : List ℕ} → ((t : Tree) → Part w least n total strikes levels t → Fresh met (numbers t) → length (numbers t) < room → ⊥)
-      → Visited w least met n total strikes levels room met' 0
-  refused out = record { yes = λ e. absurd (omega arith); no = λ t p f l. absurd (out t p f l) }
+  refused : {m' : Met} → ((t : Tree) → Stands w c t → Fresh m.words (numbers t) → length (numbers t) ≤ m.room → ⊥) → Visited w m m' c false
+  refused out = record { yes = λ e. never e refl; no = λ t p f l. absurd (out t p f l) }
 
   -- there is no room for the node, or it was met before
-  pub visited_met : {met' : List ℕ} {b : Bool} → Meets met met' n room b → b ≡ false → Visited w least met n total strikes levels room met' 0
-  visited_met m e = refused (λ t p f l. never (m.no (omega (arith, some_node t)) (rw p.at at (top_fresh t f))) e)
+  pub visited_met : {m' : Met} {b : Bool} → Meets m m' c.root b → b ≡ false → Visited w m m' c false
+  visited_met k e = refused (λ t p f l. never (k.no (omega (arith, some_node t)) (rw p.at at (top_fresh t f))) e)
 
-  -- it is free, or no node at all
-  pub visited_free : {met' : List ℕ} (k : ℕ) → node_at w n ≡ free k → Visited w least met n total strikes levels room met' 0
-  visited_free k e = refused (λ t p f l. part_free t k e p)
+  -- where a leaf is claimed there is none, or a leaf of which the claim is not true
+  pub visited_no_leaf : {m' : Met} → c.levels ≤ 1 → ((x : Leaf) → node_at w c.root ≡ leaf x → Filled x c.total c.ones c.least c.levels → ⊥)
+      → Visited w m m' c false
+  visited_no_leaf low out = refused (λ t p f l. let x = low_leaf low t p in out x.0 x.1 x.2)
 
-  pub visited_broken : {met' : List ℕ} → node_at w n ≡ broken → Visited w least met n total strikes levels room met' 0
-  visited_broken e = refused (λ t p f l. part_broken t e p)
+  -- where a fork is claimed there is none, or a fork of which the claim is not true
+  pub visited_no_fork : {m' : Met} → 2 ≤ c.levels → ((f : Fork) → node_at w c.root ≡ fork f → Agrees f c.total c.ones c.levels → ⊥)
+      → Visited w m m' c false
+  visited_no_fork high out = refused (λ t p f l. let x = high_fork high t p in out x.0 x.1 x.2)
 
-  -- it is a leaf or a fork of which the claims are not true
-  pub visited_unfit : {met' : List ℕ} (x : Leaf) → node_at w n ≡ leaf x → (Filled x total strikes least levels → ⊥)
-      → Visited w least met n total strikes levels room met' 0
-  visited_unfit x read out = refused (λ t p f l. out (part_leaf x read t p).0)
+  -- it is a fork of which the claims are not true
+  pub visited_untrue : {m' : Met} (f : Fork) → node_at w c.root ≡ fork f → (Agrees f c.total c.ones c.levels → ⊥) → Visited w m m' c false
+  visited_untrue f read out = refused (λ t p _ l. by_forked f (λ _. ⊥) t read p (λ n l r e h. out h.agrees))
 
-  pub visited_untrue : {met' : List ℕ} (f : Fork) → node_at w n ≡ fork f → (Agrees f total strikes levels → ⊥)
-      → Visited w least met n total strikes levels room met' 0
-  visited_untrue f read out = refused (λ t p _ l. by_forked f (λ _. ⊥) t read p (λ m l r e h. out h.agrees))
-
-  module _ {met₁ : List ℕ} (some : 2 ≤ room) (f₁ : Fresh met (n ∷ [])) (m₁ : Marked met met₁ (n ∷ [])) where
+  module _ {m₁ : Met} (k : Meets m m₁ c.root true) where
     -- a leaf takes one node's room
-    pub visited_leaf : (x : Leaf) → node_at w n ≡ leaf x → Filled x total strikes least levels
-        → Visited w least met n total strikes levels room met₁ (room - 1)
+    pub visited_leaf : (x : Leaf) → node_at w c.root ≡ leaf x → {b : Bool} → Says (Filled x c.total c.ones c.least c.levels) b
+        → Visited w m m₁ c b
     unfolding numbers
-    visited_leaf x read h =
+    visited_leaf x read says =
+        let met = k.yes refl in
         record {
           yes = λ e. (
-            Tree.leaf n (held x total),
-            record { part = leaf_part x read h; fresh = f₁; marked = m₁; rest = omega arith },
+            Tree.leaf c.root (held x c.total),
+            record { part = leaf_part x read (says.yes e); fresh = met.1; marked = met.2; rest = omega (arith, met.0) },
           );
-          no = λ t p f l. let same = (part_leaf x read t p).1 in (rw same (omega arith), rw same m₁);
+          no = λ t p f l. let is = part_leaf x read t p in (says.no is.0, rw is.1 (omega (arith, met.0)), rw is.1 met.2);
         }
 
     -- a fork: its left child, and then its right child
-    module _ (f : Fork) (read : node_at w n ≡ fork f) (agrees : Agrees f total strikes levels) {met₂ : List ℕ} {rest : ℕ}
-        (v : Visited w leaf_least met₁ f.left f.left_total f.left_ones (levels - max 1 (f.balance - 1)) (room - 1) met₂ rest) where
-      walked_join : {met₃ : List ℕ} {r : ℕ} (a b : Tree) → 1 ≤ r
-          → Walked w leaf_least met₁ f.left f.left_total f.left_ones (levels - max 1 (f.balance - 1)) (room - 1) met₂ rest a
-          → Walked w least met₂ f.right (total - f.left_total) (strikes - f.left_ones) (levels - max 1 (3 - f.balance)) rest met₃ r b
-          → Walked w least met n total strikes levels room met₃ r (Tree.fork n a b)
-      unfolding numbers
-      walked_join a b e p q =
-          record {
-            part = fork_part f a b read (record { agrees = agrees; left = p.part; right = q.part });
-            fresh = fresh_join (n ∷ []) (numbers a ++ numbers b) f₁ m₁ (fresh_join (numbers a) (numbers b) p.fresh p.marked q.fresh);
-            marked = joined_marked n a b refl m₁ p.marked q.marked;
-            rest = omega (arith, p.rest, q.rest, fork_nodes n a b);
-          }
+    module _ (f : Fork) (read : node_at w c.root ≡ fork f) (agrees : Agrees f c.total c.ones c.levels) {m₂ : Met} where
+      -- the left child does not stand there
+      pub visited_left : {left : Claim} {r : Bool} → left ≡ left_claim c f → r ≡ false → Visited w m₁ m₂ left r → Visited w m m₂ c false
+      visited_left near out v = refused (λ t p g l. by_forked f
+          (λ (t : Tree). Fresh m.words (numbers t) → length (numbers t) ≤ m.room → ⊥) t read p
+          (λ n a b e h g l.
+          let met = k.yes refl in
+          let size = fork_nodes n a b in
+          never (v.no a (rw near h.left) (fresh_first (numbers a) (numbers b) (below_fresh n a b e met.2 g)) (omega (arith, met.0))).0 out)
+          g l)
 
-      pub visited_fork : {met₃ : List ℕ} {r : ℕ}
-          → Visited w least met₂ f.right (total - f.left_total) (strikes - f.left_ones) (levels - max 1 (3 - f.balance)) rest met₃ r
-          → Visited w least met n total strikes levels room met₃ r
-      visited_fork {met₃} {r} u =
-          record {
-            yes = λ e.
-                let b = u.yes e in
-                let a = v.yes (omega (arith, b.1.rest)) in
-                (Tree.fork n a.0 b.0, walked_join a.0 b.0 e a.1 b.1);
-            no = λ t p g l. by_forked f
-                (λ (t : Tree). Fresh met (numbers t) → length (numbers t) < room → (r + length (numbers t) ≡ room) × Marked met met₃ (numbers t))
-                t read p
-                (λ m a b e h g l.
-                let size = fork_nodes m a b in
-                let both = below_fresh m a b e m₁ g in
-                let x = v.no a h.left (fresh_first (numbers a) (numbers b) both) (omega arith) in
-                let left = x.0 in
-                let y = u.no b h.right (fresh_second (numbers a) (numbers b) both x.1) (omega arith) in
-                let right = y.0 in
-                (omega arith, joined_marked m a b e m₁ x.1 y.1))
-                g l;
-          }
+      module _ (v : Visited w m₁ m₂ (left_claim c f) true) where
+        walked_join : {m₃ : Met} (a b : Tree) → Walked w m₁ m₂ (left_claim c f) a → Walked w m₂ m₃ (right_claim c f) b
+            → Walked w m m₃ c (Tree.fork c.root a b)
+        unfolding numbers
+        walked_join a b p q =
+            let met = k.yes refl in
+            record {
+              part = fork_part f a b read (record { agrees = agrees; left = p.part; right = q.part });
+              fresh = fresh_join (c.root ∷ []) (numbers a ++ numbers b) met.1 met.2
+                  (fresh_join (numbers a) (numbers b) p.fresh p.marked q.fresh);
+              marked = joined_marked c.root a b refl met.2 p.marked q.marked;
+              rest = omega (arith, met.0, p.rest, q.rest, fork_nodes c.root a b);
+            }
+
+        pub visited_fork : {m₃ : Met} {r : Bool} → Visited w m₂ m₃ (right_claim c f) r → Visited w m m₃ c r
+        visited_fork {m₃} {r} u =
+            record {
+              yes = λ e. let a = v.yes refl in let b = u.yes e in (Tree.fork c.root a.0 b.0, walked_join a.0 b.0 a.1 b.1);
+              no = λ t p g l. by_forked f
+                  (λ (t : Tree). Fresh m.words (numbers t) → length (numbers t) ≤ m.room
+                  → (r ≡ true) × (m₃.room + length (numbers t) ≡ m.room) × Marked m.words m₃.words (numbers t))
+                  t read p
+                  (λ n a b e h g l.
+                  let met = k.yes refl in
+                  let size = fork_nodes n a b in
+                  let both = below_fresh n a b e met.2 g in
+                  let x = v.no a h.left (fresh_first (numbers a) (numbers b) both) (omega (arith, met.0)) in
+                  let y = u.no b h.right (fresh_second (numbers a) (numbers b) both x.2) (omega (arith, met.0, x.1)) in
+                  (y.0, omega (arith, met.0, x.1, y.1), joined_marked n a b e met.2 x.2 y.2))
+                  g l;
+            }
 
 -- ---- how far a visit has come
 
 -- what a visit answers from here on is what it answers from the start
-pub record Onward (w : List ℕ) (least : ℕ) (met₀ : List ℕ) (n₀ total₀ ones₀ levels₀ room₀ : ℕ) (met : List ℕ) (n total ones levels room : ℕ)
-    : Type 0 where
-  pub size : length met ≡ length met₀
-  pub falls : levels ≤ levels₀
-  pub on : (met' : List ℕ) (r : ℕ) → Visited w least met n total ones levels room met' r → Visited w least met₀ n₀ total₀ ones₀ levels₀ room₀ met' r
-
--- at first
-pub onward_none : (w : List ℕ) (least : ℕ) (met : List ℕ) (n total ones levels room : ℕ)
-    → Onward w least met n total ones levels room met n total ones levels room
-onward_none w least met n total ones levels room = record { size = refl; falls = omega arith; on = λ met' r v. v }
+pub record Onward (w : List ℕ) (m₀ : Met) (c₀ : Claim) (m : Met) (c : Claim) : Type 0 where
+  pub falls : c.levels ≤ c₀.levels
+  pub on : (m' : Met) (r : Bool) → Visited w m m' c r → Visited w m₀ m' c₀ r
 
 -- past a fork whose left child has been visited
-pub onward_more : {w : List ℕ} {least : ℕ} {met₀ : List ℕ} {n₀ total₀ ones₀ levels₀ room₀ : ℕ} {met : List ℕ} {n total ones levels room : ℕ}
-    {met₁ met₂ : List ℕ} {left right rest : ℕ} → Onward w least met₀ n₀ total₀ ones₀ levels₀ room₀ met n total ones levels room → 2 ≤ room
-    → Fresh met (n ∷ []) → Marked met met₁ (n ∷ []) → (f : Fork) → node_at w n ≡ fork f → Agrees f total ones levels
-    → left ≡ levels - max 1 (f.balance - 1) → right ≡ levels - max 1 (3 - f.balance) → length met₂ ≡ length met₁
-    → Visited w leaf_least met₁ f.left f.left_total f.left_ones left (room - 1) met₂ rest
-    → Onward w least met₀ n₀ total₀ ones₀ levels₀ room₀ met₂ f.right (total - f.left_total) (ones - f.left_ones) right rest
-onward_more o some f₁ m₁ f read agrees low high long v =
-    record {
-      size = long ∙ m₁.size ∙ o.size;
+pub onward_more : {w : List ℕ} {m₀ m m₁ m₂ : Met} {c₀ c : Claim} → Onward w m₀ c₀ m c → Meets m m₁ c.root true → (f : Fork)
+    → node_at w c.root ≡ fork f → Agrees f c.total c.ones c.levels → {left right : Claim} {r : Bool} → left ≡ left_claim c f → right ≡ right_claim c f
+    → r ≡ true → Visited w m₁ m₂ left r → Onward w m₀ c₀ m₂ right
+onward_more o k f read agrees near far stands v =
+    rw far record {
       falls = omega (arith, o.falls);
-      on = λ met' r u. o.on met' r (visited_fork some f₁ m₁ f read agrees (rw low at v) (rw high at u));
+      on = λ m' r u. o.on m' r (visited_fork k f read agrees (rw (sym near, sym stands) v) u);
     }

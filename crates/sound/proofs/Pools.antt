@@ -7,7 +7,7 @@ use mathlib.Core.Path.{◌≡◌, refl, sym, ap, ◌∙◌}
 use mathlib.Core.Bool.{Bool, true, false}
 use mathlib.Core.List.Memᴰ
 use mathlib.Core.List.{List, [], ◌∷◌, ◌++◌, Memᴰ}
-use mathlib.Core.Logic.{⊎_elim}
+use mathlib.Core.Logic.{◌⊎◌, ⊎_elim}
 use lib.ListN.{length, get_or, replicate, length-append}
 use Rattle.model.specs.Pool.{Pool, numbers_from}
 use Rattle.model.specs.Marks.{count}
@@ -28,8 +28,12 @@ use Rattle.pool.proofs.Cells.{leaf_says, fork_says, free_says}
 use Rattle.model.specs.Says.{Says}
 use Rattle.sound.specs.Judged.{Judged, Correct}
 use Rattle.sound.specs.Links.{Linked}
-use Rattle.sound.specs.Met.{Fresh, met_at, met_words}
-use Rattle.sound.specs.Part.{Part, Told, Visited}
+use Rattle.std.specs.Prelude.{Option, None, Some}
+use Rattle.std.proofs.lemmas.Option.{none-some}
+use Rattle.sound.specs.Met.{Fresh, met_at, met_words, none_met}
+use Rattle.sound.specs.Part.{Stands, Told, Visited}
+use Rattle.sound.specs.declared.met.Met.{Met}
+use Rattle.sound.specs.declared.visit.Claim.{Claim}
 use Rattle.sound.specs.declared.edge.Edge.{Edge}
 use Rattle.sound.proofs.Answers.{never, no_leaf, no_fork}
 use Rattle.sound.proofs.Bitmap.{fresh_first}
@@ -96,33 +100,43 @@ least_whole (Tree.fork n l r) least e s = let one : least ≡ 1 = omega arith in
 
 -- ---- a pool
 
-abbrev pub unmarked : List ℕ
+abbrev unmarked : List ℕ
 unmarked = replicate met_words 0
+
+-- what is claimed of the whole tree
+abbrev pub told_claim : ℕ → ℕ → Edge → ℕ → Claim
+told_claim root total e least = record { root = root; total = total; ones = e.ones; least = least; levels = e.levels }
 
 module _ {w : List ℕ} {root total : ℕ} {chain : Chain} (most : nodes_in w ≤ most_nodes) where
   -- what is told of the right edge is so of the pool's tree
-  correct_part : (e : Edge) → Told w root total e → (least : ℕ) → least ≡ min 1 (e.levels - 1) → (p : Pool) → Correct w root total chain p
-      → Part w least root total e.ones e.levels p.tree
-  correct_part e told least low p h =
-      let whole = whole_least p.tree (min 1 (height p.tree)) refl h.sound.whole in
+  correct_told : {r : Option Edge} → Told w root total r → (p : Pool) → Correct w root total chain p
+      → r ≡ Some (record { ones = count true (marks p.tree); levels = height p.tree + 1 })
+  correct_told told p h =
       let deep = depth (nodes_in w) p most h.sound in
-      let same = told.so (min 1 (height p.tree)) (count true (marks p.tree)) (height p.tree + 1) p.tree
+      told.so (min 1 (height p.tree)) (count true (marks p.tree)) (height p.tree + 1) p.tree
       (record {
         at = h.rooted;
         holds = h.laid.tree;
         counts = h.counts;
         ones = refl;
-        sized = whole;
+        sized = whole_least p.tree (min 1 (height p.tree)) refl h.sound.whole;
         balanced = h.sound.balanced;
         tall = refl;
       })
-      (omega arith) in
-      let tall = same.1 in
+      (omega arith)
+
+  correct_part : (e : Edge) → Told w root total (Some e) → (least : ℕ) → least ≡ min 1 (e.levels - 1) → (p : Pool) → Correct w root total chain p
+      → Stands w (told_claim root total e least) p.tree
+  correct_part e told least low p h =
+      let some = correct_told told p h in
+      let same : e ≡ record { ones = count true (marks p.tree); levels = height p.tree + 1 } = cc in
+      let ones : e.ones ≡ count true (marks p.tree) = ap (λ (x : Edge). x.ones) same in
+      let tall : e.levels ≡ height p.tree + 1 = ap (λ (x : Edge). x.levels) same in
       record {
         at = h.rooted;
         holds = h.laid.tree;
         counts = h.counts;
-        ones = sym same.0;
+        ones = sym ones;
         sized = whole_least p.tree least (omega arith) h.sound.whole;
         balanced = h.sound.balanced;
         tall = sym tall;
@@ -163,39 +177,61 @@ module _ {w : List ℕ} {root total : ℕ} {chain : Chain} (most : nodes_in w �
   pub judged_long : nodes_in w < chain.count → Judged w root total chain false
   judged_long long = refused (λ p h. omega (arith, correct_amount p h))
 
+  -- no tree has such a right edge
+  pub judged_edgeless : Told w root total None → Judged w root total chain false
+  judged_edgeless told = refused (λ p h. none-some _ (correct_told told p h))
+
 -- ---- after the visit
 
--- what is known then: what the right edge told, how many nodes there was room for, and what the visit answers
-pub record Seen (w : List ℕ) (root total : ℕ) (chain : Chain) (r : ℕ) : Type 0 where
+-- what is known then: what the right edge told, for how many nodes there was room, and what the visit answers
+pub record Seen (w : List ℕ) (root total : ℕ) (chain : Chain) (m : Met) (r : Bool) : Type 0 where
   pub words : length w ≡ nodes_in w * node_words
   pub most : nodes_in w ≤ most_nodes
   pub edge : Edge
-  pub told : Told w root total edge
+  pub told : Told w root total (Some edge)
   pub room : ℕ
-  pub fits : room + chain.count ≡ nodes_in w + 1
+  pub fits : room + chain.count ≡ nodes_in w
   pub least : ℕ
   pub low : least ≡ min 1 (edge.levels - 1)
-  pub met : List ℕ
-  pub visited : Visited w least unmarked root total edge.ones edge.levels room met r
+  pub visited : Visited w (none_met room) m (told_claim root total edge least) r
 
-module _ {w : List ℕ} {root total : ℕ} {chain : Chain} {r : ℕ} (s : Seen w root total chain r) where
-  -- a pool's tree is found, and takes all the room but one
-  correct_seen : (p : Pool) → Correct w root total chain p → r ≡ 1
+pub seen : {w : List ℕ} {root total : ℕ} {chain : Chain} {e : Edge} {count room least : ℕ} {none m : Met} {r : Bool}
+    → (length w ≡ nodes_in w * node_words) × (nodes_in w ≤ most_nodes) → count ≡ nodes_in w → (chain.count ≤ count) × (room ≡ count - chain.count)
+    → Told w root total (Some e) → least ≡ min 1 (e.levels - 1) → none ≡ none_met room → Visited w none m (told_claim root total e least) r
+    → Seen w root total chain m r
+seen {e} {room} {least} asked all left told low start v =
+    record {
+      words = asked.0;
+      most = asked.1;
+      edge = e;
+      told = told;
+      room = room;
+      fits = omega (arith, left.0, left.1);
+      least = least;
+      low = low;
+      visited = rw (sym start) v;
+    }
+
+module _ {w : List ℕ} {root total : ℕ} {chain : Chain} {m : Met} {r : Bool} (s : Seen w root total chain m r) where
+  -- a pool's tree is found, and takes all the room
+  correct_seen : (p : Pool) → Correct w root total chain p → (r ≡ true) × (m.room ≡ 0)
   correct_seen p h =
-      let part : Part w s.least root total s.edge.ones s.edge.levels p.tree =
-      correct_part s.most s.edge s.told s.least s.low p h in
+      let part = correct_part s.most s.edge s.told s.least s.low p h in
       let amount = correct_amount s.most p h in
       let fits = s.fits in
       let fresh = fresh_first (numbers p.tree) p.free (correct_fresh s.most p h) in
-      omega (arith, (s.visited.no p.tree part fresh (omega arith)).0)
+      let no = s.visited.no p.tree part fresh (omega arith) in
+      (no.0, omega (arith, no.1))
 
-  pub judged_none : (r ≡ 1 → ⊥) → Judged w root total chain false
-  judged_none ne = refused s.most (λ p h. ne (correct_seen p h))
+  -- it was not found, or left some room
+  pub judged_unseen : {b : Bool} → ((r ≡ true) × (m.room ≡ 0 → ⊥)) ⊎ (r ≡ false) → b ≡ false → Judged w root total chain b
+  judged_unseen out off =
+      rw off (refused s.most (λ p h. let seen = correct_seen p h in ⊎_elim (λ o. o.1 seen.1) (never seen.0) out))
 
-  pool_right : r ≡ 1 → Linked w (nodes_in w) chain.first chain.count → (p : Pool) × Correct w root total chain p
+  pool_right : r ≡ true → m.room ≡ 0 → Linked w (nodes_in w) chain.first chain.count → (p : Pool) × Correct w root total chain p
   unfolding all_numbers
-  pool_right one l =
-      let v = s.visited.yes (omega arith) in
+  pool_right stands full l =
+      let v = s.visited.yes stands in
       let t = v.0 in
       let part = v.1.part in
       let ks = l.0 in
@@ -221,9 +257,10 @@ module _ {w : List ℕ} {root total : ℕ} {chain : Chain} {r : ℕ} (s : Seen w
       )
 
   -- a pool stands there exactly where the chain does
-  pub judged_chain : {b : Bool} → r ≡ 1 → Says (Linked w (nodes_in w) chain.first chain.count) b → Judged w root total chain b
-  judged_chain one says =
+  pub judged_chain : {b : Bool} → r ≡ true → m.room ≡ 0 → Says (Linked w (nodes_in w) chain.first chain.count) b
+      → Judged w root total chain b
+  judged_chain stands full says =
       record {
-        yes = λ t. pool_right one (says.yes t);
+        yes = λ t. pool_right stands full (says.yes t);
         no = λ p h. says.no (p.free, record { chained = h.laid.chain; begins = h.begins; counts = h.amount });
       }

@@ -1,8 +1,10 @@
--- Which nodes have been met: a bit for each node, 64 to a word, the lowest first.
-use Rattle.std.specs.Prelude.{ℕ, ◌*◌, ◌/◌, ◌%◌, ◌^◌, ◌<◌, ◌≡◌, Bool, true, false, ◌⊎◌, length, get_or}
+-- Which nodes have been met: a bit for each node, 64 to a word, the lowest first, and how many more may be met.
+use Rattle.std.specs.Prelude.{ℕ, ◌+◌, ◌*◌, ◌/◌, ◌%◌, ◌^◌, ◌<◌, ◌≤◌, ◌≡◌, Bool, true, false, ◌⊎◌}
+use Rattle.std.specs.Prelude.{length, get_or, replicate}
 use mathlib.Core.List.{List, [], ◌∷◌, Memᴰ}
 use Rattle.model.specs.Sound.{Distinct}
 use Rattle.model.specs.Word.{odd, word_bits}
+use Rattle.sound.specs.declared.met.Met.{Met}
 
 -- the words that have a bit for each of 1,024 nodes
 abbrev pub met_words : ℕ
@@ -25,8 +27,11 @@ pub record Marked (met met' ks : List ℕ) : Type 0 where
   pub kept : (k : ℕ) → met_at met k ≡ true → met_at met' k ≡ true
   pub only : (k : ℕ) → met_at met' k ≡ true → Memᴰ k ks ⊎ (met_at met k ≡ true)
 
--- what it says that node n is met now: it is fresh, and there is room for it, `room` being one more than the nodes that
--- may still be met
-pub record Meets (met met' : List ℕ) (n room : ℕ) (r : Bool) : Type 0 where
-  pub yes : r ≡ true → (1 < room) × Fresh met (n ∷ []) × Marked met met' (n ∷ [])
-  pub no : 1 < room → Fresh met (n ∷ []) → r ≡ true
+-- no node has been met, and so many may be
+abbrev pub none_met : ℕ → Met
+none_met room = record { words = replicate met_words 0; room = room }
+
+-- what it says that node n is met now: it is fresh, and there is room for it
+pub record Meets (m m' : Met) (n : ℕ) (r : Bool) : Type 0 where
+  pub yes : r ≡ true → (m'.room + 1 ≡ m.room) × Fresh m.words (n ∷ []) × Marked m.words m'.words (n ∷ [])
+  pub no : 1 ≤ m.room → Fresh m.words (n ∷ []) → r ≡ true

@@ -1,6 +1,7 @@
 -- A subtree that stands in some node words from a number down, of which all is claimed from above, and what a visit
--- answers of it: how many more nodes there is room for, or nothing.
-use Rattle.std.specs.Prelude.{ℕ, ◌+◌, ◌≤◌, ◌<◌, ◌≡◌, Bool, true, List, length, take}
+-- answers of it: whether it stands there.
+use Rattle.std.specs.Prelude.{ℕ, ◌+◌, ◌-◌, ◌≤◌, ◌≡◌, max, Bool, true, List, length, take, Option, Some}
+use Rattle.model.specs.Edit.{leaf_least}
 use Rattle.model.specs.Limits.{levels as deepest}
 use Rattle.model.specs.Marks.{count}
 use Rattle.model.specs.Sound.{Balanced, Sized, leaf_most}
@@ -11,6 +12,8 @@ use Rattle.pool.specs.Layout.{Holds}
 use Rattle.pool.specs.declared.node.Fork.{Fork}
 use Rattle.sound.specs.Met.{Fresh, Marked}
 use Rattle.sound.specs.declared.edge.Edge.{Edge}
+use Rattle.sound.specs.declared.met.Met.{Met}
+use Rattle.sound.specs.declared.visit.Claim.{Claim}
 
 -- the most levels of nodes, a leaf's among them
 abbrev pub most_levels : ℕ
@@ -52,23 +55,48 @@ pub record Part (w : List ℕ) (least n total strikes levels : ℕ) (t : Tree) :
   pub tall : height t + 1 ≡ levels
 
 -- what the right edge tells: no more levels than there can be, and what is so of every tree of so many marks there
-pub record Told (w : List ℕ) (n total : ℕ) (e : Edge) : Type 0 where
-  pub low : e.levels ≤ most_levels
+pub record Told (w : List ℕ) (n total : ℕ) (r : Option Edge) : Type 0 where
+  pub low : (e : Edge) → r ≡ Some e → e.levels ≤ most_levels
   pub so : (least strikes levels : ℕ) (t : Tree) → Part w least n total strikes levels t → levels ≤ most_levels
-      → (e.ones ≡ strikes) × (e.levels ≡ levels)
+      → r ≡ Some (record { ones = strikes; levels = levels })
+
+-- ---- a subtree of which something is claimed
+
+-- it stands in these words
+abbrev pub Stands : List ℕ → Claim → Tree → Type 0
+Stands w c t = Part w c.least c.root c.total c.ones c.levels t
+
+-- what is claimed of a fork's children
+abbrev pub left_claim : Claim → Fork → Claim
+left_claim c f =
+    record {
+      root = f.left;
+      total = f.left_total;
+      ones = f.left_ones;
+      least = leaf_least;
+      levels = c.levels - max 1 (f.balance - 1);
+    }
+
+abbrev pub right_claim : Claim → Fork → Claim
+right_claim c f =
+    record {
+      root = f.right;
+      total = c.total - f.left_total;
+      ones = c.ones - f.left_ones;
+      least = c.least;
+      levels = c.levels - max 1 (3 - f.balance);
+    }
 
 -- what a visit has found, and met on the way
-pub record Walked (w : List ℕ) (least : ℕ) (met : List ℕ) (n total strikes levels room : ℕ) (met' : List ℕ) (r : ℕ)
-    (t : Tree) : Type 0 where
-  pub part : Part w least n total strikes levels t
-  pub fresh : Fresh met (numbers t)
-  pub marked : Marked met met' (numbers t)
-  pub rest : r + length (numbers t) ≡ room
+pub record Walked (w : List ℕ) (m m' : Met) (c : Claim) (t : Tree) : Type 0 where
+  pub part : Stands w c t
+  pub fresh : Fresh m.words (numbers t)
+  pub marked : Marked m.words m'.words (numbers t)
+  pub rest : m'.room + length (numbers t) ≡ m.room
 
--- a tree is found where one stands whose nodes are all fresh, with fewer of them than there is room for, and nowhere
+-- a tree is found where one stands whose nodes are all fresh, with no more of them than there is room for, and nowhere
 -- else
-pub record Visited (w : List ℕ) (least : ℕ) (met : List ℕ) (n total strikes levels room : ℕ) (met' : List ℕ) (r : ℕ)
-    : Type 0 where
-  pub yes : 1 ≤ r → (t : Tree) × Walked w least met n total strikes levels room met' r t
-  pub no : (t : Tree) → Part w least n total strikes levels t → Fresh met (numbers t) → length (numbers t) < room
-      → (r + length (numbers t) ≡ room) × Marked met met' (numbers t)
+pub record Visited (w : List ℕ) (m m' : Met) (c : Claim) (r : Bool) : Type 0 where
+  pub yes : r ≡ true → (t : Tree) × Walked w m m' c t
+  pub no : (t : Tree) → Stands w c t → Fresh m.words (numbers t) → length (numbers t) ≤ m.room
+      → (r ≡ true) × (m'.room + length (numbers t) ≡ m.room) × Marked m.words m'.words (numbers t)

@@ -7,37 +7,29 @@ ghost use Rattle.sound.specs.Judged.{Judged};
 
 use crate::edge::{least_of, right_edge};
 use crate::links::chain_sound;
-use crate::visit::visit;
+use crate::met::Met;
+use crate::visit::{Claim, visit};
 use pool::{Chain, node_count};
 
-// A bit for each of 1,024 nodes.
-const MET_WORDS: usize = 16;
-
-// Whether a sound pool stands in these words, with this root, this many marks and this chain.
+// Whether a sound pool stands in these words, with this root, this many marks and this chain. The three come apart,
+// since this crate stands beside `tree`, whose `Held` has them together.
 pub fn sound(nodes: &[u64], root: u64, length: u64, chain: Chain) -> bool
     requires { (size nodes.now ≡ nodes_in nodes.now * node_words) × (nodes_in nodes.now ≤ most_nodes) }
     ensures { Judged nodes.now root length chain result }
 {
-    let edge = right_edge(nodes, root, length);
-    let count = node_count(nodes);
-    if count < chain.count {
+    let Some(room) = node_count(nodes).checked_sub(chain.count) else {
         return false;
-    }
-    let mut met = [0u64; MET_WORDS];
-    let room = count - chain.count + 1;
-    let least = least_of(edge.levels);
-    let rest = visit(
-        nodes,
-        &mut met,
+    };
+    let Some(edge) = right_edge(nodes, root, length) else {
+        return false;
+    };
+    let mut met = Met::none(room);
+    let claim = Claim {
         root,
-        length,
-        edge.ones,
-        least,
-        edge.levels,
-        room,
-    );
-    if rest == 1 {
-        return chain_sound(nodes, chain);
-    }
-    false
+        total: length,
+        ones: edge.ones,
+        least: least_of(edge.levels),
+        levels: edge.levels,
+    };
+    visit(nodes, &mut met, claim) && met.room == 0 && chain_sound(nodes, chain)
 }

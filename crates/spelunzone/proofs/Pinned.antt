@@ -1,14 +1,18 @@
 -- Every exported contract determines its reply, and the words that the call leaves. Each law speaks of the contract as the check reads it off
 -- the source.
-use mathlib.Core.Path.{◌≡◌}
+use mathlib.Core.Path.{◌≡◌, sym, ◌∙◌}
 use Rattle.model.specs.Contract.{Pinned}
 use Rattle.run.proofs.Pinned.{ran_one}
 use Rattle.window.proofs.Pinned.{checked_one, builds_one, valued_one}
 use Rattle.spelunzone.proofs.Replies.{one_reply}
+use Rattle.spelunzone.proofs.ReplyFromAnswer.from.Reads as reply
 use Rattle.spelunzone.proofs.sz_build.Reads as build
 use Rattle.spelunzone.proofs.sz_check.Reads as check
 use Rattle.spelunzone.proofs.sz_run.Reads as run
 use Rattle.spelunzone.proofs.sz_values.Reads as values
+
+pub reply_pinned : Pinned reply.Post
+reply_pinned κs a r r' w w' p q = λ i. record { code = (p.code ∙ sym q.code) i; value = (p.value ∙ sym q.value) i }
 
 pub check_pinned : Pinned check.Post
 check_pinned κs a r r' w w' p q = one_reply _ _ r r' (λ x y. checked_one _ x y) p q

@@ -1,7 +1,6 @@
 -- A call's reply is told by its answer.
 use mathlib.Core.Path.{◌≡◌, sym, ap, ◌∙◌}
-use Rattle.order.specs.Answer.{code, value}
-use Rattle.order.specs.declared.answer.Answer.{Answer}
+use Rattle.order.specs.Answer.{Answer, code, value}
 use Rattle.spelunzone.specs.Reply.{Replies}
 use Rattle.spelunzone.specs.declared.Reply.{Reply}
 

@@ -1,7 +1,6 @@
 -- What crosses to the host: the number and the value of the window's answer.
 use Rattle.std.specs.Prelude.{◌≡◌}
-use Rattle.order.specs.Answer.{code, value}
-use Rattle.order.specs.declared.answer.Answer.{Answer}
+use Rattle.order.specs.Answer.{Answer, code, value}
 use Rattle.spelunzone.specs.declared.Reply.{Reply}
 
 -- the reply is this answer

@@ -2,47 +2,49 @@
 // as `spelunzone_c` exports them.
 #![tactic(auto)]
 
-ghost use Rattle.std.specs.Prelude.{◌≡◌};
 ghost use Rattle.spelunzone.specs.Reply.{Replies, Carries};
 ghost use Rattle.run.specs.Runs.{Ran};
 ghost use Rattle.window.specs.Calls.{BuildsTo, Checked, Valued};
 
-use order::{Answer, as_words};
+use order::{Answer, TwoWords};
 
+// `TwoWords` of the crate `order` in the layout that C sees.
 #[repr(C)]
-#[derive(Clone, Copy)]
+#[derive(Clone, Copy, Debug, PartialEq, Eq, Hash)]
 pub struct Reply {
     pub code: u64,
     pub value: u64,
 }
 
 // An answer as its number and its value.
-fn handed(answer: Answer) -> Reply
-    ensures { Carries answer result }
-{
-    let words = as_words(answer);
-    Reply {
-        code: words.code,
-        value: words.value,
+impl From<Answer> for Reply {
+    ghost from_gives = { Carries };
+
+    fn from(answer: Answer) -> Reply {
+        let words = TwoWords::from(answer);
+        Reply {
+            code: words.code,
+            value: words.value,
+        }
     }
 }
 
 pub fn sz_check(pool: &[u64]) -> Reply
     ensures { Replies (Checked pool.now) result }
 {
-    handed(window::check(pool))
+    Reply::from(window::check(pool))
 }
 
 pub fn sz_build(pool: &mut [u64], words: &[u64], length: u64) -> Reply
     ensures { Replies (λ a. BuildsTo pool.old words.now length a pool.new) result }
 {
-    handed(window::build(pool, words, length))
+    Reply::from(window::build(pool, words, length))
 }
 
 pub fn sz_values(pool: &[u64], out: &mut [u64]) -> Reply
     ensures { Replies (λ a. Valued pool.now out.old a out.new) result }
 {
-    handed(window::values(pool, out))
+    Reply::from(window::values(pool, out))
 }
 
 pub fn sz_run(pool: &mut [u64], orders: &[u64], out: &mut [u64]) -> Reply
@@ -50,5 +52,5 @@ pub fn sz_run(pool: &mut [u64], orders: &[u64], out: &mut [u64]) -> Reply
         (λ a. Ran pool.old orders.now out.old a pool.new
         out.new) result }
 {
-    handed(run::run(pool, orders, out))
+    Reply::from(run::run(pool, orders, out))
 }

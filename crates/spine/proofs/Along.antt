@@ -17,9 +17,10 @@ use Rattle.pool.specs.Layout.{Holds, Rooted, Edited, fork_of}
 use Rattle.pool.specs.declared.node.Fork.{Fork}
 use Rattle.pool.specs.declared.node.Node.TheVariants.{Leaf as leaf, Fork as fork}
 use Rattle.pool.proofs.Standing.{by_leaf, by_fork, some_level, leaf_small}
-use Rattle.model.specs.Side.{side}
+use Rattle.tree.specs.Stepping.{left_child, right_child}
+use Rattle.tree.specs.TreeAt.{TreeAt, tree_at}
+use Rattle.tree.specs.declared.root.Root.{Root}
 use Rattle.spine.specs.Edges.{Editable, IsLast, ToPutBefore, ToDropFirst, Taken, last_number}
-use Rattle.spine.specs.declared.edges.LastLeaf.{LastLeaf}
 use Rattle.spine.proofs.Edits.{rooted_child, editable_child, fork_left, edited_leaf, edited_left, edited_right, top_stays}
 use Rattle.spine.proofs.Ends.{put_before_size, put_before_count, drop_first_size, drop_first_count, count_most, strikes_most, joined, first_removed, first_marked, last_removed, last_marked}
 
@@ -29,11 +30,6 @@ module _ {w : List ℕ} {n levels : ℕ} (t : Tree) (h : Rooted w n levels t) {f
   -- there is a level below
   pub level : 1 ≤ levels
   level = by_fork (λ _. 1 ≤ levels) t f h read (λ m l r h s. some_level m l r h)
-
-  -- the left child's total is within the tree's
-  pub left_within : f.left_total ≤ size t
-  unfolding fork_of size
-  left_within = by_fork (λ t. f.left_total ≤ size t) t f h read (λ m l r h s. omega (arith, ap (λ (g : Fork). g.left_total) s))
 
 -- what the fork over two children says of the left one
 module _ {f : Fork} (l r : Tree) (s : f ≡ fork_of l r) where
@@ -45,57 +41,35 @@ module _ {f : Fork} (l r : Tree) (s : f ≡ fork_of l r) where
   unfolding fork_of
   left_ones = ap (λ (g : Fork). g.left_ones) s
 
--- the number and the total of a child, as the fork over it tells them
-abbrev child_at : Bool → Fork → ℕ
-child_at left f = side left f.left f.right
-
-abbrev child_total : Bool → Fork → ℕ → ℕ
-child_total left f z = side left f.left_total (z - f.left_total)
-
-child_size : (left : Bool) {f : Fork} {z : ℕ} (m : ℕ) (l r : Tree) → f ≡ fork_of l r → size (Tree.fork m l r) ≡ z
-    → size (side left l r) ≡ child_total left f z
-unfolding size
-child_size true m l r s e = sym (left_total l r s)
-child_size false m l r s e = omega (arith, left_total l r s)
-
 -- ---- the leaf at an edge
 
--- a tree of so many marks stands below a number
-abbrev Sized : List ℕ → ℕ → ℕ → ℕ → Tree → Type 0
-Sized w n levels z t = Rooted w n levels t × (size t ≡ z)
-
-module _ {w : List ℕ} {n levels z : ℕ} (t : Tree) (q : Sized w n levels z t) where
-  pub first_of_leaf : {x : Leaf} → node_at w n ≡ leaf x → z ≡ length (first_leaf t)
+module _ {w : List ℕ} {root : Root} {levels : ℕ} (s : TreeAt w root levels) where
+  pub first_of_leaf : {x : Leaf} → node_at w root.node ≡ leaf x → root.length ≡ length (first_leaf s.tree)
   unfolding size first_leaf
-  first_of_leaf {x} read = by_leaf (λ t. size t ≡ z → z ≡ length (first_leaf t)) t x q.0 read (λ m xs h p e. sym e) q.1
+  first_of_leaf {x} read =
+      by_leaf (λ t. size t ≡ root.length → root.length ≡ length (first_leaf t)) s.tree x s.rooted read (λ m xs h p e. sym e) s.total
 
-  pub last_of_leaf : {x : Leaf} → node_at w n ≡ leaf x → IsLast (record { n = n; size = z }) t
+  pub last_of_leaf : {x : Leaf} → node_at w root.node ≡ leaf x → IsLast root s.tree
   unfolding size last_leaf top
   last_of_leaf {x} read =
-      by_leaf (λ t. size t ≡ z → IsLast (record { n = n; size = z }) t) t x q.0 read
-      (λ m xs h p e. record { at = sym h.at; size_is = sym e }) q.1
+      by_leaf (λ t. size t ≡ root.length → IsLast root t) s.tree x s.rooted read
+      (λ m xs h p e. record { at = sym h.at; size_is = sym e }) s.total
 
-  module _ {f : Fork} (read : node_at w n ≡ fork f) where
-    sized_child : (left : Bool) (P : Tree → Type 0)
-        → ((m : ℕ) (l r : Tree) → Sized w (child_at left f) (levels - 1) (child_total left f z) (side left l r) → P (Tree.fork m l r)) → P t
-    unfolding fork_of
-    sized_child left P p =
-        by_fork (λ t. size t ≡ z → P t) t f q.0 read (λ m l r h s e. p m l r (rw s (rooted_child left m l r h), child_size left m l r s e)) q.1
+  module _ {f : Fork} (read : node_at w root.node ≡ fork f) where
+    pub first_of_fork : {k : ℕ} → ((c : TreeAt w (left_child f) (levels - 1)) → k ≡ length (first_leaf c.tree))
+        → k ≡ length (first_leaf s.tree)
+    unfolding first_leaf fork_of
+    first_of_fork {k} below =
+        by_fork (λ t. k ≡ length (first_leaf t)) s.tree f s.rooted read
+        (λ m l r h e. below (tree_at l (rw e (rooted_child true m l r h)) (sym (left_total l r e))))
 
-    pub size_below : (left : Bool) → (t : Tree) × Rooted w (child_at left f) (levels - 1) t × (size t ≡ child_total left f z)
-    size_below left =
-        sized_child left (λ _. (t : Tree) × Rooted w (child_at left f) (levels - 1) t × (size t ≡ child_total left f z))
-        (λ m l r c. (side left l r, c.0, c.1))
-
-    pub first_of_fork : {k : ℕ} → ((l : Tree) → Rooted w f.left (levels - 1) l → size l ≡ f.left_total → k ≡ length (first_leaf l))
-        → k ≡ length (first_leaf t)
-    unfolding first_leaf
-    first_of_fork {k} below = sized_child true (λ t. k ≡ length (first_leaf t)) (λ m l r c. below l c.0 c.1)
-
-    pub last_of_fork : {k : LastLeaf} → ((r : Tree) → Rooted w f.right (levels - 1) r → size r ≡ z - f.left_total → IsLast k r) → IsLast k t
-    unfolding last_leaf
+    pub last_of_fork : {k : Root} → ((c : TreeAt w (right_child f root.length) (levels - 1)) → IsLast k c.tree) → IsLast k s.tree
+    unfolding size last_leaf fork_of
     last_of_fork {k} below =
-        sized_child false (IsLast k) (λ m l r c. let i = below r c.0 c.1 in record { at = i.at; size_is = i.size_is })
+        by_fork (λ t. size t ≡ root.length → IsLast k t) s.tree f s.rooted read
+        (λ m l r h e z.
+        let i = below (tree_at r (rw e (rooted_child false m l r h)) (omega (arith, left_total l r e, z))) in
+        record { at = i.at; size_is = i.size_is }) s.total
 
 -- ---- marks put before the first
 
@@ -241,21 +215,22 @@ module _ {w w' : List ℕ} {c : Leaf} where
   last_edited (Tree.fork m l r) o s e =
       edited_right m l r o (drop_last r) (drop_last_shape r) (last_edited r (editable_child false m l r o refl) s e)
 
-module _ {w : List ℕ} {n levels : ℕ} (t : Tree) (o : Editable w n levels t) {k : LastLeaf} (is : IsLast k t) where
+module _ {w : List ℕ} {n levels : ℕ} (t : Tree) (o : Editable w n levels t) {k : Root} (is : IsLast k t) where
   -- at its own number
   own : Editable w (top t) levels t
   own = record { rooted = record { at = refl; holds = o.rooted.holds; deep = o.rooted.deep; sized = o.rooted.sized }; once = o.once }
 
-  pub last_read : node_at w k.n ≡ leaf (leaf_of (last_leaf t))
+  pub last_read : node_at w k.node ≡ leaf (leaf_of (last_leaf t))
   last_read = ap (node_at w) is.at ∙ last_held w t o.rooted.holds
 
-  module _ {w' : List ℕ} {old c : Leaf} (read : old ≡ leaf_in (node_at w k.n)) (e : w' ≡ put w k.n (leaf_cell c)) where
+  module _ {w' : List ℕ} {old c : Leaf} (read : old ≡ leaf_in (node_at w k.node)) (e : w' ≡ put w k.node (leaf_cell c)) where
     pub after_put : {a : Leaf} (ys : List Bool) → a ≡ leaf_of ys → length ys + length (last_leaf t) ≤ 127
-        → c ≡ leaf_of (take k.size (bits_of old) ++ bits_of a) → Edited w w' (numbers t) (put_after ys t)
+        → c ≡ leaf_of (take k.length (bits_of old) ++ bits_of a) → Edited w w' (numbers t) (put_after ys t)
     after_put ys held room s =
         after_edited ys t own (joined (last_leaf t) ys (read ∙ ap leaf_in last_read) (sym is.size_is) held (omega arith) s) (rw (← is.at) e)
 
-    pub last_taken : {b : Bool} → 1 ≤ length (last_leaf t) → c ≡ leaf_of (remove (k.size - 1) (bits_of old)) → b ≡ access (k.size - 1) (bits_of old)
+    pub last_taken : {b : Bool} → 1 ≤ length (last_leaf t) → c ≡ leaf_of (remove (k.length - 1) (bits_of old))
+        → b ≡ access (k.length - 1) (bits_of old)
         → Taken w w' t (last_mark t) (drop_last t) b
     unfolding last_mark
     last_taken some s bit =

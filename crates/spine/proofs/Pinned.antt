@@ -7,10 +7,10 @@ use mathlib.Core.Bool.{Bool}
 use mathlib.Core.List.{List, [], ◌∷◌}
 use borrow.Fn.Kinds.{Dens}
 use Rattle.model.specs.Edit.{put_before, put_after, drop_first, drop_last}
-use Rattle.model.specs.Tree.{Tree, size}
+use Rattle.model.specs.Tree.{Tree}
 use Rattle.model.proofs.Shape.{put_before_shape, put_after_shape, drop_first_shape, drop_last_shape, alike_numbers}
-use Rattle.pool.specs.Layout.{Rooted}
 use Rattle.pool.proofs.Once.{Unbroken, edited_once}
+use Rattle.tree.specs.TreeAt.{TreeAt}
 use Rattle.spine.specs.Edges.{ToPutBefore, ToPutAfter, ToDropFirst, ToDropLast}
 use Rattle.spine.proofs.edges.first_leaf_size.Reads as first_leaf_size
 use Rattle.spine.proofs.edges.first_leaf_size.Kinds as first_leaf_size_kinds
@@ -25,15 +25,13 @@ use Rattle.spine.proofs.edges.drop_first.Kinds as first_kinds
 use Rattle.spine.proofs.edges.drop_last.Reads as last
 use Rattle.spine.proofs.edges.drop_last.Kinds as last_kinds
 
-pub first_leaf_size_pinned : (κs : _) (a : Dens {n = 1} κs first_leaf_size_kinds.ps) (r r' : _) (w w' : _) (t : Tree)
-    → Rooted a.0.now a.1.0 a.1.1.1.0 t → size t ≡ a.1.1.0
+pub first_leaf_size_pinned : (κs : _) (a : Dens {n = 1} κs first_leaf_size_kinds.ps) (r r' : _) (w w' : _) → TreeAt a.0.now a.1.0 a.1.1.0
     → first_leaf_size.Post κs a r w → first_leaf_size.Post κs a r' w' → r ≡ r'
-first_leaf_size_pinned κs a r r' w w' t h e p q = p t h e ∙ sym (q t h e)
+first_leaf_size_pinned κs a r r' w w' s p q = p s ∙ sym (q s)
 
-pub last_leaf_size_pinned : (κs : _) (a : Dens {n = 1} κs last_leaf_size_kinds.ps) (r r' : _) (w w' : _) (t : Tree)
-    → Rooted a.0.now a.1.0 a.1.1.1.0 t → size t ≡ a.1.1.0
+pub last_leaf_size_pinned : (κs : _) (a : Dens {n = 1} κs last_leaf_size_kinds.ps) (r r' : _) (w w' : _) → TreeAt a.0.now a.1.0 a.1.1.0
     → last_leaf_size.Post κs a r w → last_leaf_size.Post κs a r' w' → r ≡ r'
-last_leaf_size_pinned κs a r r' w w' t h e p q = p t h e ∙ sym (q t h e)
+last_leaf_size_pinned κs a r r' w w' s p q = p s ∙ sym (q s)
 
 pub put_before_pinned : (κs : _) (a : Dens {n = 1} κs before_kinds.ps) (r r' : _) (w w' : _) (n : ℕ) (t : Tree) (ys : List Bool)
     → Unbroken n a.0.now → ToPutBefore a.0.now a.1.0 a.1.1.1.1.1.0 a.1.1.0 a.1.1.1.0 a.1.1.1.1.0 t ys
@@ -42,7 +40,7 @@ put_before_pinned κs a r r' w w' n t ys whole h p q =
     edited_once n whole (sym (alike_numbers (put_before ys t) t (put_before_shape ys t))) (p t ys h) (q t ys h)
 
 pub put_after_pinned : (κs : _) (a : Dens {n = 1} κs after_kinds.ps) (r r' : _) (w w' : _) (n : ℕ) (t : Tree) (ys : List Bool)
-    → Unbroken n a.0.now → ToPutAfter a.0.now a.1.0 a.1.1.1.1.0 a.1.1.0 a.1.1.1.0 t ys
+    → Unbroken n a.0.now → ToPutAfter a.0.now a.1.0 a.1.1.1.0 a.1.1.0 t ys
     → after.Post κs a r w → after.Post κs a r' w' → w.0.now ≡ w'.0.now
 put_after_pinned κs a r r' w w' n t ys whole h p q =
     edited_once n whole (sym (alike_numbers (put_after ys t) t (put_after_shape ys t))) (p t ys h) (q t ys h)
@@ -59,7 +57,7 @@ drop_first_pinned κs a r r' w w' n t whole h p q = (
 )
 
 pub drop_last_pinned : (κs : _) (a : Dens {n = 1} κs last_kinds.ps) (r r' : _) (w w' : _) (n : ℕ) (t : Tree) → Unbroken n a.0.now
-    → ToDropLast a.0.now a.1.0 a.1.1.1.0 a.1.1.0 t → last.Post κs a r w → last.Post κs a r' w'
+    → ToDropLast a.0.now a.1.0 a.1.1.0 t → last.Post κs a r w → last.Post κs a r' w'
     → (r ≡ r') × (w.0.now ≡ w'.0.now)
 drop_last_pinned κs a r r' w w' n t whole h p q = (
   same_one (p t h).marked (q t h).marked,

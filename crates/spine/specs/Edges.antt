@@ -7,16 +7,16 @@ use Rattle.model.specs.Tree.{Tree, first_leaf, last_leaf, numbers}
 use Rattle.bits.specs.Leaf.{leaf_of}
 use Rattle.bits.specs.declared.leaf.Leaf.{Leaf}
 use Rattle.pool.specs.Layout.{Rooted, Edited}
-use Rattle.spine.specs.declared.edges.LastLeaf.{LastLeaf}
+use Rattle.tree.specs.declared.root.Root.{Root}
 
 -- the number of the last leaf
 abbrev pub last_number : Tree → ℕ
 last_number (Tree.leaf n xs) = n
 last_number (Tree.fork n l r) = last_number r
 
-pub record IsLast (l : LastLeaf) (t : Tree) : Type 0 where
-  pub at : l.n ≡ last_number t
-  pub size_is : l.size ≡ length (last_leaf t)
+pub record IsLast (leaf : Root) (t : Tree) : Type 0 where
+  pub at : leaf.node ≡ last_number t
+  pub size_is : leaf.length ≡ length (last_leaf t)
 
 -- a tree that may be edited in place: no number stands twice in it
 pub record Editable (w : List ℕ) (n levels : ℕ) (t : Tree) : Type 0 where
@@ -33,10 +33,10 @@ pub record ToPutBefore (w : List ℕ) (n levels : ℕ) (leaf : Leaf) (size ones 
   pub strikes : count true ys ≡ ones
   pub room : length ys + length (first_leaf t) ≤ 127
 
--- the marks ys of a leaf can be put after the last mark of t, which holds `size`
-pub record ToPutAfter (w : List ℕ) (n levels size : ℕ) (leaf : Leaf) (t : Tree) (ys : List Bool) : Type 0 where
-  pub tree : Editable w n levels t
-  pub total : Tree.size t ≡ size
+-- the marks ys of a leaf can be put after the last mark of t, which the root tells
+pub record ToPutAfter (w : List ℕ) (root : Root) (levels : ℕ) (leaf : Leaf) (t : Tree) (ys : List Bool) : Type 0 where
+  pub tree : Editable w root.node levels t
+  pub total : Tree.size t ≡ root.length
   pub held : leaf ≡ leaf_of ys
   pub room : length ys + length (last_leaf t) ≤ 127
 
@@ -45,10 +45,10 @@ pub record ToDropFirst (w : List ℕ) (n levels : ℕ) (t : Tree) : Type 0 where
   pub tree : Editable w n levels t
   pub some : 1 ≤ length (first_leaf t)
 
--- the last leaf of t, which holds `size`, has a mark to take
-pub record ToDropLast (w : List ℕ) (n levels size : ℕ) (t : Tree) : Type 0 where
-  pub tree : Editable w n levels t
-  pub total : Tree.size t ≡ size
+-- the last leaf of t, which the root tells, has a mark to take
+pub record ToDropLast (w : List ℕ) (root : Root) (levels : ℕ) (t : Tree) : Type 0 where
+  pub tree : Editable w root.node levels t
+  pub total : Tree.size t ≡ root.length
   pub some : 1 ≤ length (last_leaf t)
 
 -- t' stands where t stood, and the one mark of `mark` was handed back

@@ -1,17 +1,18 @@
--- Pieces between marks, by where the first mark stands, and texts compared byte by byte.
+-- Pieces between marks, and fields, by where the first mark stands; and texts that are the same.
 use Prim.Native.Nat.{ℕ, suc, ◌+◌, ◌≤◌, ◌<◌}
 use native.Mathlib.Numerals.{add-one}
 use native.Mathlib.Omega.{arith}
 use mathlib.Core.Path.{◌≡◌, refl, ap}
-use mathlib.Core.Bool.{true, false, ◌&&◌}
+use mathlib.Core.Bool.{Bool, ◌&&◌}
 use mathlib.Core.List.{List, [], ◌∷◌}
 use lib.Dec.{eqb}
-use lib.ListN.{length, take, drop, get_or, drop_of_length-le}
-use lib.Seq.{drop-cons}
-use borrow.Author.Tests.{eq-eqb, ne_eqb}
+use lib.ListN.{length, take, drop}
 use Rattle.text.specs.Bytes.{index_of}
 use Rattle.model.proofs.Cases.{by_ltb, by_test}
-use Rattle.text.specs.Text.{onto_first, pieces, same}
+use Rattle.std.specs.Bool.{Decides}
+use Rattle.std.specs.Str.{bytes_eq}
+use Rattle.std.proofs.lemmas.Slice.Eq.{compares_Decides}
+use Rattle.text.specs.Text.{fields, onto_first, pieces, same, space}
 
 module _ (mark : ℕ) where
   pub index_within : (bs : List ℕ) → index_of mark bs ≤ length bs
@@ -49,28 +50,34 @@ module _ (mark : ℕ) where
   pub pieces_some : (P : List (List ℕ) → Type 0) (bs : List ℕ) → ((f : List ℕ) (fs : List (List ℕ)) → P (f ∷ fs)) → P (pieces mark bs)
   pieces_some P bs p = by_mark bs (λ h. rw (pieces_one bs h) (p bs [])) (λ h. rw (pieces_more bs h) (p _ _))
 
+-- ---- the fields of a row
+
+-- no space: one field
+pub fields_alone : (bs : List ℕ) → length bs ≤ index_of space bs → fields bs ≡ bs ∷ []
+unfolding fields
+fields_alone bs h = pieces_one space bs h
+
+-- what stands before the first space, and the fields behind it
+pub fields_more : (bs : List ℕ) {i : ℕ} → i ≡ index_of space bs → i < length bs → fields bs ≡ take i bs ∷ fields (drop (i + 1) bs)
+unfolding fields
+fields_more bs {i} e h = rw (add-one i, e) (pieces_more space bs (rw e at h))
+
+-- there is always a first field
+pub fields_some : (P : List (List ℕ) → Type 0) (bs : List ℕ) → ((f : List ℕ) (fs : List (List ℕ)) → P (f ∷ fs)) → P (fields bs)
+unfolding fields
+fields_some P bs p = pieces_some space P bs p
+
 -- ---- texts that are the same
 
--- texts of two lengths are not
-pub same_long : (a b : List ℕ) → (length a ≡ length b → ⊥) → same a b ≡ false
+-- two texts are told to be the same where they are equal
+pub same_decides : (a b : List ℕ) → Decides (same a b) (a ≡ b)
 unfolding same
-same_long [] [] n = absurd (n refl)
-same_long [] (y ∷ b) n = refl
-same_long (x ∷ a) [] n = refl
-same_long (x ∷ a) (y ∷ b) n = by_test (eqb x y) (λ e. rw e (same_long a b (λ l. n (ap suc l)))) (λ e. rw e)
+same_decides = compares_Decides same (record { empty = refl; shorter = λ y ys. refl; longer = λ x xs. refl; heads = λ x y xs ys. refl })
 
--- at a place, from which on they are compared
-module _ (a b : List ℕ) (i : ℕ) (h : i < length a) (k : i < length b) where
-  same_here : same (drop i a) (drop i b) ≡ eqb (get_or a i 0) (get_or b i 0) && same (drop (suc i) a) (drop (suc i) b)
-  unfolding same
-  same_here = rw (drop-cons a i 0 h, drop-cons b i 0 k)
-
-  pub same_on : get_or a i 0 ≡ get_or b i 0 → same (drop i a) (drop i b) ≡ same (drop (i + 1) a) (drop (i + 1) b)
-  same_on e = rw (same_here, eq-eqb (get_or a i 0) (get_or b i 0) e, add-one i)
-
-  pub same_not : (get_or a i 0 ≡ get_or b i 0 → ⊥) → same (drop i a) (drop i b) ≡ false
-  same_not n = rw (same_here, ne_eqb (get_or a i 0) (get_or b i 0) n)
-
-pub same_end : (a b : List ℕ) (i : ℕ) → length a ≤ i → length b ≤ i → same (drop i a) (drop i b) ≡ true
+-- as the library tells it
+pub same_is : (a b : List ℕ) → bytes_eq a b ≡ same a b
 unfolding same
-same_end a b i h k = rw (drop_of_length-le a {i = i} h, drop_of_length-le b {i = i} k)
+same_is [] [] = refl
+same_is [] (y ∷ b) = refl
+same_is (x ∷ a) [] = refl
+same_is (x ∷ a) (y ∷ b) = ap (λ (r : Bool). eqb x y && r) (same_is a b)

@@ -6,7 +6,7 @@ use native.Mathlib.Omega.{arith}
 use mathlib.Core.Path.{◌≡◌, refl, ap, ap₂, ◌∙◌}
 use mathlib.Core.Bool.{Bool, true, false, ◌&&◌}
 use mathlib.Core.List.{List, [], ◌∷◌, ◌++◌}
-use mathlib.Core.Option.{Option, none, some}
+use Rattle.std.specs.Prelude.{Option, None, Some}
 use lib.Dec.{eqb, leb, ltb}
 use lib.ListN.{length, length-append}
 use borrow.Author.Tests.{lt-ltb, le-ltb, le-leb, eqb-true, eq-eqb, ne_eqb}
@@ -95,12 +95,12 @@ module _ (base : ℕ) where
       (λ t h. let never : ◌≡◌ {A = Bool} false true = rw (all_digits, t) at e in absurd (let z : ◌≡◌ {A = ℕ} 0 1 = cc in omega arith))
 
   -- digits make their value
-  pub numeral_digits : (xs : List ℕ) → all_digits base xs ≡ true → numeral base xs ≡ some (value_of base xs)
+  pub numeral_digits : (xs : List ℕ) → all_digits base xs ≡ true → numeral base xs ≡ Some (value_of base xs)
   unfolding numeral
   numeral_digits xs e = rw (numeral, e)
 
   -- and a text that is not all digits makes none
-  pub numeral_not : (xs : List ℕ) → all_digits base xs ≡ false → numeral base xs ≡ none
+  pub numeral_not : (xs : List ℕ) → all_digits base xs ≡ false → numeral base xs ≡ None
   unfolding numeral
   numeral_not xs e = rw (numeral, e)
 
@@ -129,8 +129,8 @@ module _ (base : ℕ) (some_base : 1 < base) (most : base ≤ 16) where
       ∙ div-add-mod' n base
 
   -- the k digits of a number below base ^ k make the number
-  pub told_numeral : (k n : ℕ) → n < base ^ k → numeral base (digits base k n) ≡ some n
-  told_numeral k n h = numeral_digits base (digits base k n) (told_digits k n) ∙ ap {B = Option ℕ} some (told_value k n h)
+  pub told_numeral : (k n : ℕ) → n < base ^ k → numeral base (digits base k n) ≡ Some n
+  told_numeral k n h = numeral_digits base (digits base k n) (told_digits k n) ∙ ap {B = Option ℕ} Some (told_value k n h)
 
 -- ---- how many decimal digits a number needs
 
@@ -139,11 +139,6 @@ pub fitting_here : (tries k n : ℕ) → n < 10 ^ k → fitting tries k n ≡ k
 unfolding fitting
 fitting_here zero k n h = refl
 fitting_here (suc tries) k n h = rw (fitting, lt-ltb n (10 ^ k) h)
-
--- one that is not enough is passed
-pub fitting_later : (tries k n : ℕ) → 10 ^ k ≤ n → fitting (suc tries) k n ≡ fitting tries (suc k) n
-unfolding fitting
-fitting_later tries k n h = rw (fitting, le-ltb n (10 ^ k) h)
 
 -- where some count in reach is enough, the one found is
 fitting_enough : (tries k n : ℕ) → n < 10 ^ (k + tries) → n < 10 ^ fitting tries k n
@@ -163,15 +158,26 @@ fitting_least (suc tries) k n m l h =
     (fitting_least tries (suc k) n m (by_ltb k m (λ _ more. more)
     (λ _ same. absurd (let grows : 10 ^ m ≤ 10 ^ k = pow-le-pow_right {n = 10} (omega arith) {i = m} {j = k} same in omega arith))) h))
 
+-- a number from 10 ^ k on and below 10 ^ (k + 1) needs one digit more than k
+pub fitting_is : (k n : ℕ) → k < 20 → 10 ^ k ≤ n → n < 10 * 10 ^ k → fitting 19 1 n ≡ k + 1
+fitting_is k n few low high =
+    let most : n < 10 ^ (k + 1) = rw (add-one k, pow-suc 10 k) (omega arith) in
+    let all : 10 ^ (k + 1) ≤ 10 ^ 20 = pow-le-pow_right {n = 10} (omega arith) {i = k + 1} {j = 20} (omega arith) in
+    let enough : n < 10 ^ fitting 19 1 n = fitting_enough 19 1 n (omega arith) in
+    let no_more : fitting 19 1 n ≤ k + 1 = fitting_least 19 1 n (k + 1) (omega arith) most in
+    by_ltb k (fitting 19 1 n)
+    (λ _ l. omega arith)
+    (λ _ l. absurd (let below : 10 ^ fitting 19 1 n ≤ 10 ^ k = pow-le-pow_right {n = 10} (omega arith) {i = fitting 19 1 n} {j = k} l in omega arith))
+
 -- ---- what is told is read back
 
 -- a word in its 16 digits is read as the word
-pub hex_back : (w : ℕ) → w < 2 ^ 64 → hex_word (hex_text w) ≡ some w
+pub hex_back : (w : ℕ) → w < 2 ^ 64 → hex_word (hex_text w) ≡ Some w
 unfolding hex_word hex_text
 hex_back w h = rw (hex_word, eq-eqb (length (hex_text w)) 16 (hex_length w)) (told_numeral 16 (omega arith) (omega arith) 16 w h)
 
 -- a number that has at most 18 digits is read as the number
-pub decimal_back : (n : ℕ) → n < 10 ^ 18 → decimal (decimal_text n) ≡ some n
+pub decimal_back : (n : ℕ) → n < 10 ^ 18 → decimal (decimal_text n) ≡ Some n
 unfolding decimal decimal_text
 decimal_back n h =
     let few : length (decimal_text n) ≤ 18 = rw (digits_length 10 (fitting 19 1 n) n) (fitting_least 19 1 n 18 (omega arith) h) in
@@ -186,7 +192,7 @@ unfolding decimal
 decimal_reads bs l h = rw (decimal, within 1 18 (length bs) l h)
 
 -- and no other count
-pub decimal_not : (bs : List ℕ) → (1 ≤ length bs → length bs ≤ 18 → ⊥) → decimal bs ≡ none
+pub decimal_not : (bs : List ℕ) → (1 ≤ length bs → length bs ≤ 18 → ⊥) → decimal bs ≡ None
 unfolding decimal
 decimal_not bs n = rw (decimal, outside 1 18 (length bs) n)
 
@@ -196,16 +202,16 @@ unfolding hex_word
 hex_reads bs e = rw (hex_word, eq-eqb (length bs) 16 e)
 
 -- and no other count
-pub hex_not : (bs : List ℕ) → (length bs ≡ 16 → ⊥) → hex_word bs ≡ none
+pub hex_not : (bs : List ℕ) → (length bs ≡ 16 → ⊥) → hex_word bs ≡ None
 unfolding hex_word
 hex_not bs n = rw (hex_word, ne_eqb (length bs) 16 n)
 
 -- what is read as a word has 16 bytes
-pub hex_long : (bs : List ℕ) (w : ℕ) → hex_word bs ≡ some w → length bs ≡ 16
+pub hex_long : (bs : List ℕ) (w : ℕ) → hex_word bs ≡ Some w → length bs ≡ 16
 unfolding hex_word
 hex_long bs w e =
     by_test (eqb (length bs) 16) (λ t. eqb-true (length bs) 16 t)
-    (λ t. absurd (let never : none ≡ some w = rw (hex_word, t) at e in let z : ◌≡◌ {A = ℕ} 0 1 = cc in omega arith))
+    (λ t. absurd (let never : None ≡ Some w = rw (hex_word, t) at e in let z : ◌≡◌ {A = ℕ} 0 1 = cc in omega arith))
 
 -- fewer digits than a word has stay within a word
 pub digits_fit : (base k n : ℕ) → 0 < base → k ≤ n → base ^ n ≤ 2 ^ 64 → base ^ k ≤ 2 ^ 64

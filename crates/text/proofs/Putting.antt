@@ -98,6 +98,10 @@ pub decimal_places : (n : ℕ) → length (decimal_text n) ≡ fitting 19 1 n
 unfolding decimal_text
 decimal_places n = digits_length 10 (fitting 19 1 n) n
 
+-- and a count of so many is a count of its digits
+pub all_places : {k : ℕ} (n : ℕ) → k ≡ fitting 19 1 n → k ≡ length (decimal_text n)
+all_places n e = e ∙ sym (decimal_places n)
+
 -- a number has 1 to 20 digits
 pub decimal_length : (n : ℕ) → (1 ≤ length (decimal_text n)) × (length (decimal_text n) ≤ 20)
 decimal_length n = rw (decimal_places n) (fitting_bounds 19 1 n)

@@ -1,35 +1,46 @@
--- A byte is sought in a stretch of a row, place by place.
-use Rattle.std.proofs.Common.{ℕ, suc, ◌+◌, ◌≤◌, ◌<◌, ◌≡◌, ap, ◌∙◌, List, [], ◌∷◌, length, get_or, take, drop, arith}
-use native.Mathlib.Numerals.{add-one}
-use lib.ListN.{drop_of_length-le}
-use lib.Seq.{drop-cons, length-take-le}
-use borrow.Author.Tests.{eq-eqb, ne_eqb}
-use Rattle.std.proofs.lemmas.List.{get_or-take}
-use Rattle.text.specs.Bytes.{index_of, slice}
+-- Where a byte first stands, by the library's search and by ours.
+use Rattle.std.proofs.Common.{ℕ, ◌+◌, ◌≤◌, ◌<◌, ◌≡◌, ◌==◌, refl, sym, List, ◌∷◌, length, arith, cond}
+use Rattle.std.specs.Prelude.{Option, None, Some, position, unwrap_or}
+use Rattle.std.specs.List.{position_or_len}
+use Rattle.std.proofs.lemmas.List.Recursion.{is_position_or_len}
+use lib.Dec.{eqb}
+use Rattle.model.proofs.Cases.{by_ltb, by_test}
+use Rattle.text.specs.Bytes.{index_of}
+use Rattle.text.proofs.Cutting.{index_within}
 
-module _ (byte : ℕ) (bs : List ℕ) (i to : ℕ) (less : i < to) (within : to ≤ length bs) where
-  -- the stretch begins with the byte at its first place
-  slice_more : slice i to bs ≡ get_or bs i 0 ∷ slice (suc i) to bs
-  unfolding slice
-  slice_more =
-      let long : length (take to bs) ≡ to = length-take-le to bs within in
-      let here : i < length (take to bs) = omega arith in
-      drop-cons (take to bs) i 0 here ∙ ap (λ (b : ℕ). b ∷ drop (suc i) (take to bs)) (get_or-take to bs i 0 less)
-
-  -- it is the one that is sought
-  pub sought_here : get_or bs i 0 ≡ byte → i + index_of byte (slice i to bs) ≡ i
+module _ (byte : ℕ) where
+  -- one byte more
+  index_step : (b : ℕ) (bs : List ℕ) → index_of byte (b ∷ bs) ≡ cond (b == byte) 0 (1 + index_of byte bs)
   unfolding index_of
-  sought_here e = rw (slice_more, index_of, eq-eqb (get_or bs i 0) byte e) (omega arith)
+  index_step b bs = by_test (eqb b byte) (λ e. rw (index_of, e)) (λ e. rw (index_of, e) (omega arith))
 
-  -- it is another one
-  pub sought_on : (get_or bs i 0 ≡ byte → ⊥) → i + index_of byte (slice i to bs) ≡ i + 1 + index_of byte (slice (i + 1) to bs)
+  -- the place, or the length
+  index_is : (bs : List ℕ) → index_of byte bs ≡ position_or_len (λ (b : ℕ). b == byte) bs
   unfolding index_of
-  sought_on n = rw (slice_more, index_of, ne_eqb (get_or bs i 0) byte n, add-one i) (omega arith)
+  index_is bs = is_position_or_len (index_of byte) (λ (b : ℕ). b == byte) refl index_step bs
 
--- nothing is left of the stretch
-pub sought_end : (byte : ℕ) (bs : List ℕ) (to : ℕ) → to ≤ length bs → to + index_of byte (slice to to bs) ≡ to
-unfolding slice index_of
-sought_end byte bs to within =
-    let long : length (take to bs) ≡ to = length-take-le to bs within in
-    let none_left : drop to (take to bs) ≡ [] = drop_of_length-le (take to bs) {i = to} (omega arith) in
-    rw none_left (omega arith)
+  module _ (bs : List ℕ) where
+    -- where the search ends
+    abbrev first : ℕ
+    first = position_or_len (λ (b : ℕ). b == byte) bs
+
+    -- it stands somewhere
+    pub place_found : {i : ℕ} → position (λ (b : ℕ). b == byte) bs ≡ Some i → (i ≡ index_of byte bs) × (i < length bs)
+    place_found {i} e =
+        rw (index_is bs)
+        (by_ltb first (length bs)
+        (λ t h. let whole : Some first ≡ Some i = rw t at e in let same : first ≡ i = cc in (sym same, omega arith))
+        (λ t h. absurd (let never : None ≡ Some i = rw t at e in let z : ◌≡◌ {A = ℕ} 0 1 = cc in omega arith)))
+
+    -- it stands nowhere
+    pub place_none : position (λ (b : ℕ). b == byte) bs ≡ None → length bs ≤ index_of byte bs
+    place_none e =
+        rw (index_is bs)
+        (by_ltb first (length bs)
+        (λ t h. absurd (let never : Some first ≡ None = rw t at e in let z : ◌≡◌ {A = ℕ} 0 1 = cc in omega arith))
+        (λ t h. h))
+
+    -- its place, or the end
+    pub place_or_end : {o : Option ℕ} → o ≡ position (λ (b : ℕ). b == byte) bs → unwrap_or o (length bs) ≡ index_of byte bs
+    place_or_end {o = None} e = sym (omega (arith, place_none (sym e), index_within byte bs))
+    place_or_end {o = Some i} e = (place_found (sym e)).0

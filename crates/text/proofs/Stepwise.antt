@@ -1,17 +1,16 @@
--- Digits read, counted and put one by one: how far each loop has come, and what its next pass does.
+-- Digits read and put one by one: how far each loop has come, and what its next pass does.
 use Prim.Native.Nat.{ℕ, suc, ◌+◌, ◌-◌, ◌*◌, ◌/◌, ◌%◌, ◌^◌, ◌≤◌, ◌<◌}
-use native.Mathlib.Nat.{div-lt_iff_lt-mul, le-div_iff_mul-le, div-div-eq-div-mul, mul-le-mul_right, pow-suc, pow-le-pow_right, one-le-pow}
+use native.Mathlib.Nat.{mul-le-mul_right, pow-suc, pow-le-pow_right}
 use native.Mathlib.Numerals.{add-one}
 use native.Mathlib.Omega.{arith}
 use mathlib.Core.Path.{◌≡◌, refl, sym, ap, ◌∙◌}
 use mathlib.Core.Bool.{true}
 use mathlib.Core.List.{List, ◌∷◌, ◌++◌}
-use mathlib.Core.Option.{Option, none, some}
+use Rattle.std.specs.Prelude.{Option, None, Some}
 use lib.ListN.{length, take, drop, get_or, set, length-set}
 use lib.Seq.{length-take-le, take_all, take-suc, split_at}
-use Rattle.model.proofs.Cases.{by_ltb}
-use Rattle.text.specs.Text.{all_digits, digits, fitting, glyph, numeral, over, value_of, worth}
-use Rattle.text.proofs.Digits.{digits_more, digits_not, fitting_here, fitting_later, numeral_digits, numeral_not, value_below, value_more}
+use Rattle.text.specs.Text.{all_digits, digits, glyph, numeral, over, value_of, worth}
+use Rattle.text.proofs.Digits.{digits_more, digits_not, numeral_digits, numeral_not, value_below, value_more}
 use Rattle.text.proofs.Putting.{digits_length, over_last, over_none}
 
 -- ---- digits read
@@ -38,7 +37,7 @@ module _ {base k value : ℕ} (bs : List ℕ) (so : Read base bs k value) where
     }
 
     -- no digit
-    pub read_not : base ≤ w → none ≡ numeral base bs
+    pub read_not : base ≤ w → None ≡ numeral base bs
     read_not h =
         sym (ap (numeral base) (split_at bs k 0 more)
         ∙ numeral_not base (take k bs ++ get_or bs k 0 ∷ drop (suc k) bs)
@@ -53,57 +52,15 @@ module _ {base k value : ℕ} (bs : List ℕ) (so : Read base bs k value) where
         omega (arith, pow-suc base k)
 
   -- every byte was read
-  pub read_all : length bs ≤ k → some value ≡ numeral base bs
+  pub read_all : length bs ≤ k → Some value ≡ numeral base bs
   read_all h =
       let whole : take k bs ≡ bs = take_all k bs h in
-      sym (numeral_digits base bs (rw whole at so.are_digits) ∙ ap {B = Option ℕ} some (sym (rw whole at so.make)))
+      sym (numeral_digits base bs (rw whole at so.are_digits) ∙ ap {B = Option ℕ} Some (sym (rw whole at so.make)))
 
 -- none was read yet
 pub read_none : (base : ℕ) (bs : List ℕ) → Read base bs 0 0
 unfolding all_digits value_of
 read_none base bs = record { within_reach = omega arith; are_digits = refl; make = refl }
-
--- ---- digits counted
-
-pow_above : (k : ℕ) → 0 < 10 ^ k
-pow_above k = one-le-pow k 10 (omega arith)
-
--- the count that is sought from 1 on is the one sought from k on, and this is what k digits leave of the number
-pub record Sought (n k rest : ℕ) : Type 0 where
-  pub least : 1 ≤ k
-  pub most : k ≤ 20
-  pub left : rest ≡ n / 10 ^ k
-  pub onward : fitting 19 1 n ≡ fitting (20 - k) k n
-
--- at the beginning
-pub sought_none : (n : ℕ) → Sought n 1 (n / 10)
-sought_none n = record { least = omega arith; most = omega arith; left = refl; onward = refl }
-
-module _ {n k rest : ℕ} (s : Sought n k rest) where
-  -- nothing is left: that many digits suffice
-  pub sought_all : rest ≤ 0 → k ≡ fitting 19 1 n
-  sought_all h =
-      let few : n < 10 ^ k = omega (arith, (div-lt_iff_lt-mul {k = 10 ^ k} {x = n} {y = 1} (pow_above k)).0 (omega arith)) in
-      sym (s.onward ∙ fitting_here (20 - k) k n few)
-
-  -- something is left: more digits are needed
-  module _ (h : 0 < rest) (word : n < 2 ^ 64) where
-    many : 10 ^ k ≤ n
-    many = omega (arith, (le-div_iff_mul-le {k = 10 ^ k} {x = 1} {y = n} (pow_above k)).0 (omega arith))
-
-    pub sought_few : k < 20
-    sought_few = by_ltb k 20 (λ _ l. l) (λ _ l. absurd (let last : k ≡ 20 = omega arith in let large : 10 ^ 20 ≤ n = rw last at many in omega arith))
-
-    pub sought_more : Sought n (k + 1) (rest / 10)
-    sought_more = record {
-      least = omega arith;
-      most = omega (arith, sought_few);
-      left = rw (add-one k, pow-suc 10 k, s.left) (div-div-eq-div-mul n (10 ^ k) 10);
-      onward =
-          let tries : 20 - k ≡ suc (20 - (k + 1)) = omega (arith, sought_few) in
-          s.onward ∙ ap (λ (t : ℕ). fitting t k n) tries ∙ fitting_later (20 - (k + 1)) k n many
-          ∙ ap (λ (j : ℕ). fitting (20 - (k + 1)) j n) (sym (add-one k));
-    }
 
 -- ---- digits put
 

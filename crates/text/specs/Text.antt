@@ -1,8 +1,7 @@
 -- Text: bytes in ASCII, cut into pieces, and numbers as digits of a base, the highest first.
 use Rattle.std.specs.Prelude.{ℕ, zero, suc, ◌+◌, ◌-◌, ◌*◌, ◌/◌, ◌%◌, ◌^◌, Bool, true, false, ◌&&◌, List, [], ◌∷◌, ◌++◌, eqb, leb, ltb, length, take, drop}
-use Rattle.std.proofs.Math.Option.{Option, none, some}
-use Rattle.text.specs.declared.numbers.Number.{Number}
-use Rattle.text.specs.declared.numbers.Number.TheVariants.{Value, Nothing}
+use Rattle.std.specs.Prelude.{Option, None, Some}
+use denote.Ref.{Bor}
 
 abbrev pub space : ℕ
 space = 32
@@ -66,15 +65,15 @@ value_of base (b ∷ bs) = worth b * base ^ length bs + value_of base bs
 
 -- the number that digits of a base make
 unfoldable pub numeral : ℕ → List ℕ → Option ℕ
-numeral base bs = elim (all_digits base bs) [ true ↦ some (value_of base bs) | false ↦ none ]
+numeral base bs = elim (all_digits base bs) [ true ↦ Some (value_of base bs) | false ↦ None ]
 
 -- 1 to 18 decimal digits; zeros may lead
 unfoldable pub decimal : List ℕ → Option ℕ
-decimal bs = elim (leb 1 (length bs) && leb (length bs) 18) [ true ↦ numeral 10 bs | false ↦ none ]
+decimal bs = elim (leb 1 (length bs) && leb (length bs) 18) [ true ↦ numeral 10 bs | false ↦ None ]
 
 -- exactly 16 hexadecimal digits, in lower case
 unfoldable pub hex_word : List ℕ → Option ℕ
-hex_word bs = elim (eqb (length bs) 16) [ true ↦ numeral 16 bs | false ↦ none ]
+hex_word bs = elim (eqb (length bs) 16) [ true ↦ numeral 16 bs | false ↦ None ]
 
 -- ---- numbers that are told
 
@@ -108,7 +107,7 @@ over at ts bs = take at bs ++ ts ++ drop (at + length ts) bs
 
 -- ---- what the code hands back
 
--- the number, or that there is none
-unfoldable pub number_in : Number → Option ℕ
-number_in (Value v) = some v
-number_in Nothing = none
+-- the fields that are left where something is
+unfoldable pub fields_left : Option (Bor (List ℕ)) → List (List ℕ)
+fields_left (Some rest) = fields rest.now
+fields_left None = []

@@ -5,6 +5,6 @@ mod fields;
 mod numbers;
 mod scan;
 
-pub use fields::{NEWLINE, SPACE, field_end, is_word};
-pub use numbers::{Number, decimal, hex_word, put_decimal, put_hex};
+pub use fields::{NEWLINE, SPACE, field_end, first_field, is_word};
+pub use numbers::{decimal, hex_word, put_decimal, put_hex};
 pub use scan::find;

@@ -1,67 +1,56 @@
 // Numbers as text: digits of a base, the highest first.
-ghost use Rattle.std.specs.Prelude.{◌≡◌, ◌+◌, ◌^◌, ◌≤◌, ◌<◌, length};
-ghost use Rattle.text.specs.Text.{decimal_text, digits, fitting, hex_text, hex_word, number_in, over, worth as Text·worth};
+ghost use Rattle.std.specs.Prelude.{◌≡◌, ◌+◌, ◌^◌, ◌≤◌, ◌<◌, length, MatchOption};
+ghost use Rattle.text.specs.Text.{decimal_text, digits, fitting, hex_text, hex_word, over, worth as Text·worth};
 ghost use Rattle.text.specs.Text.{decimal as Text·decimal, glyph as Text·glyph, numeral as Text·numeral};
 
-#[derive(Clone, Copy)]
-pub enum Number {
-    Value(u64),
-    Nothing,
-}
-
-// What a byte is worth as a digit, 16 where it is none.
-fn digit(byte: u8) -> u64
-    ensures { result ≡ Text·worth byte }
+// What a byte is worth as a digit. char::to_digit would take upper case too.
+fn digit(byte: u8) -> Option<u64>
+    ensures { MatchOption result (16 ≡ Text·worth byte) (λ d. (d ≡ Text·worth byte) × (d < 16)) }
 {
     match byte {
-        b'0'..=b'9' => (byte - b'0') as u64,
-        b'a'..=b'f' => (byte - b'a') as u64 + 10,
-        _ => 16,
+        b'0'..=b'9' => Some((byte - b'0') as u64),
+        b'a'..=b'f' => Some((byte - b'a') as u64 + 10),
+        _ => None,
     }
 }
 
 // The number that digits of a base make.
-fn numeral(field: &[u8], base: u64) -> Number
+fn numeral(field: &[u8], base: u64) -> Option<u64>
     requires { (1 < base) × (base ≤ 16) × (base ^ length field.now ≤ 2 ^ 64) }
-    ensures { number_in result ≡ Text·numeral base field.now }
+    ensures { result ≡ Text·numeral base field.now }
 {
     let mut value = 0;
-    let mut i = 0;
-    while i < field.len() {
-        let worth = digit(field[i]);
+    for &byte in field {
+        let worth = digit(byte)?;
         if base <= worth {
-            return Number::Nothing;
+            return None;
         }
         value = value * base + worth;
-        i += 1;
     }
-    Number::Value(value)
+    Some(value)
 }
 
 // 1 to 18 decimal digits.
-pub fn decimal(field: &[u8]) -> Number
-    ensures { number_in result ≡ Text·decimal field.now }
+pub fn decimal(field: &[u8]) -> Option<u64>
+    ensures { result ≡ Text·decimal field.now }
 {
-    if field.len() == 0 {
-        return Number::Nothing;
+    match field.len() {
+        1..=18 => numeral(field, 10),
+        _ => None,
     }
-    if 18 < field.len() {
-        return Number::Nothing;
-    }
-    numeral(field, 10)
 }
 
 // Exactly 16 hexadecimal digits, in lower case.
-pub fn hex_word(field: &[u8]) -> Number
-    ensures { number_in result ≡ hex_word field.now }
+pub fn hex_word(field: &[u8]) -> Option<u64>
+    ensures { result ≡ hex_word field.now }
 {
-    if field.len() != 16 {
-        return Number::Nothing;
+    match field.len() {
+        16 => numeral(field, 16),
+        _ => None,
     }
-    numeral(field, 16)
 }
 
-// The byte of a digit.
+// The byte of a digit. By char::from_digit it would be an unwrap between two casts.
 fn glyph(worth: u64) -> u8
     requires { worth < 16 }
     ensures { result ≡ Text·glyph worth }
@@ -76,45 +65,43 @@ fn glyph(worth: u64) -> u8
 fn places(number: u64) -> usize
     ensures { result ≡ fitting 19 1 number }
 {
-    let mut count = 1;
-    let mut rest = number / 10;
-    while 0 < rest {
-        rest /= 10;
-        count += 1;
+    match number.checked_ilog10() {
+        Some(power) => power as usize + 1,
+        None => 1,
     }
-    count
 }
 
-// Puts the last digits of a number, so many, at a place.
+// Puts the last digits of a number, so many, at a place: by index, as what is written through iter_mut is not known
+// afterwards.
 fn put_digits(out: &mut [u8], at: usize, number: u64, base: u64, count: usize)
     requires { (1 < base) × (base ≤ 16) × (at + count ≤ length out.old) }
     ensures { out.new ≡ over at (digits base count number) out.old }
 {
-    let mut i = count;
     let mut rest = number;
-    while 0 < i {
-        i -= 1;
+    for i in (0..count).rev() {
         out[at + i] = glyph(rest % base);
         rest /= base;
     }
 }
 
-// Puts a number's decimal digits at a place, and says where they end.
+// Puts a number's decimal digits at a place, and says where they end: by hand, since a proof knows nothing of what
+// Display writes. The row and the place stay two arguments: `&mut out[end..]` and a sum at each call would be no
+// plainer.
 pub fn put_decimal(out: &mut [u8], at: usize, number: u64) -> usize
     requires { at + 20 ≤ length out.old }
-    ensures value { result ≡ at + length (decimal_text number) }
-    ensures out_after { out.new ≡ over at (decimal_text number) out.old }
+    ensures end { result ≡ at + length (decimal_text number) }
+    ensures written { out.new ≡ over at (decimal_text number) out.old }
 {
     let count = places(number);
     put_digits(out, at, number, 10, count);
     at + count
 }
 
-// Puts a word's 16 hexadecimal digits at a place, and says where they end.
+// Puts a word's 16 hexadecimal digits at a place, and says where they end; what it asks is said as above.
 pub fn put_hex(out: &mut [u8], at: usize, word: u64) -> usize
     requires { at + 16 ≤ length out.old }
-    ensures value { result ≡ at + 16 }
-    ensures out_after { out.new ≡ over at (hex_text word) out.old }
+    ensures end { result ≡ at + 16 }
+    ensures written { out.new ≡ over at (hex_text word) out.old }
 {
     put_digits(out, at, word, 16, 16);
     at + 16

@@ -1,17 +1,9 @@
 // A byte is sought.
-ghost use Rattle.std.specs.Prelude.{◌≡◌, ◌+◌, ◌≤◌, length};
-ghost use Rattle.text.specs.Bytes.{index_of, slice};
+ghost use Rattle.std.specs.Prelude.{◌≡◌, ◌==◌, position};
 
-// Where a byte first stands between two places, the second place where it does not.
-pub fn find(bytes: &[u8], from: usize, to: usize, byte: u8) -> usize
-    requires { (from ≤ to) × (to ≤ length bytes.now) }
-    ensures place { result ≡ from + index_of byte (slice from to bytes.now) }
-    ensures upper_bound { result ≤ to }
+// Where a byte first stands.
+pub fn find(bytes: &[u8], byte: u8) -> Option<usize>
+    ensures { result ≡ position (λ b. b == byte) bytes.now }
 {
-    for i in from..to {
-        if bytes[i] == byte {
-            return i;
-        }
-    }
-    to
+    bytes.iter().position(|b| *b == byte)
 }

@@ -1,10 +1,9 @@
 -- Going down a path: a walk stands on a subtree of which something is known, and a step goes to a child of it. What was read says
 -- which tree it is.
-use Prim.Native.Nat.{ℕ, ◌-◌, ◌≤◌, ◌<◌}
-use native.Mathlib.Nat.{sub-zero}
+use Prim.Native.Nat.{ℕ, ◌-◌, ◌≤◌}
 use native.Mathlib.Omega.{arith}
 use mathlib.Core.Path.{◌≡◌, refl, sym, ap, ◌∙◌}
-use mathlib.Core.Bool.{Bool, true, false}
+use mathlib.Core.Bool.{Bool}
 use mathlib.Core.List.{List, ◌++◌}
 use lib.ListN.{length}
 use Rattle.model.specs.Tree.{Tree, marks, size}
@@ -19,8 +18,8 @@ use Rattle.pool.specs.declared.node.Node.TheVariants.{Leaf as leaf, Fork as fork
 use Rattle.pool.specs.declared.node.TreeNode.{TreeNode}
 use Rattle.pool.proofs.Standing.{by_leaf, by_fork, left_rooted, right_rooted, rooted_node, some_level, leaf_small}
 use Rattle.tree.specs.TreeAt.{TreeAt}
-use Rattle.tree.specs.Stepping.{step_left, step_right}
-use Rattle.tree.specs.declared.steps.Step.{Step}
+use Rattle.tree.specs.Stepping.{left_child, right_child}
+use Rattle.tree.specs.declared.root.Root.{Root}
 
 -- ---- one step, where a test tells the child
 
@@ -28,20 +27,6 @@ module _ {first : Bool} {n r : ℕ} (p : Picked first 0 n r) where
   -- what is passed over is no more than the left child holds, and no more than stands before the place
   pub picked_most : r ≤ n
   picked_most = by_test first (λ t. omega (arith, p.one t)) (λ t. omega (arith, p.other t))
-
-  pub picked_within : {i : ℕ} → (first ≡ false → n ≤ i) → r ≤ i
-  picked_within failed = by_test first (λ t. omega (arith, p.one t)) (λ t. omega (arith, p.other t, failed t))
-
-pub picked_step : (f : Fork) (len i : ℕ) {child total skip : ℕ} {left : Bool}
-    → Picked left f.left f.right child → Picked left f.left_total (len - f.left_total) total
-    → Picked left 0 f.left_total skip
-    → (left ≡ true → i < f.left_total) → (left ≡ false → f.left_total ≤ i)
-    → let s : Step = record { left = left; child = child; length = total; index = i - skip } in
-    (i < f.left_total → s ≡ step_left f i) × (f.left_total ≤ i → s ≡ step_right f len i)
-picked_step f len i {left = left} a b c passed failed =
-    by_test left
-    (λ t. (λ h. rw (t, a.one t, b.one t, c.one t, sub-zero i), λ h. absurd (omega (arith, passed t))))
-    (λ t. (λ h. absurd (omega (arith, failed t)), λ h. rw (t, a.other t, b.other t, c.other t)))
 
 -- ---- a tree that stands at a number, by what was read there
 
@@ -53,28 +38,28 @@ pub record Lone (len : ℕ) (x : Leaf) (t : Tree) : Type 0 where
 
 -- a fork was read: its children stand one level further down, and share the marks
 pub record Parts (w : List ℕ) (levels len : ℕ) (f : Fork) (t : Tree) : Type 0 where
-  pub left : TreeAt w f.left (levels - 1) f.left_total
-  pub right : TreeAt w f.right (levels - 1) (len - f.left_total)
+  pub left : TreeAt w (left_child f) (levels - 1)
+  pub right : TreeAt w (right_child f len) (levels - 1)
   pub level : 1 ≤ levels
   pub within : f.left_total ≤ len
   pub both : marks t ≡ marks left.tree ++ marks right.tree
 
-module _ {w : List ℕ} {n levels len : ℕ} (s : TreeAt w n levels len) where
+module _ {w : List ℕ} {root : Root} {levels : ℕ} (s : TreeAt w root levels) where
   -- what stands there can be read as a leaf or a fork
-  pub stands_node : LeafOrFork (node_at w n)
+  pub stands_node : LeafOrFork (node_at w root.node)
   stands_node = rooted_node s.tree s.rooted
 
-  module _ {r : TreeNode} (e : as_node r ≡ node_at w n) where
-    pub stands_leaf : {x : Leaf} → r ≡ TreeNode.Leaf x → Lone len x s.tree
+  module _ {r : TreeNode} (e : as_node r ≡ node_at w root.node) where
+    pub stands_leaf : {x : Leaf} → r ≡ TreeNode.Leaf x → Lone root.length x s.tree
     unfolding marks size
     stands_leaf {x} q =
-        by_leaf (λ t. size t ≡ len → Lone len x t) s.tree x s.rooted (sym e ∙ ap as_node q)
+        by_leaf (λ t. size t ≡ root.length → Lone root.length x t) s.tree x s.rooted (sym e ∙ ap as_node q)
         (λ m xs h x_is z. record { marks_are = x_is; count = z; small = rw z at (leaf_small m xs h) }) s.total
 
-    pub stands_fork : {f : Fork} → r ≡ TreeNode.Fork f → Parts w levels len f s.tree
+    pub stands_fork : {f : Fork} → r ≡ TreeNode.Fork f → Parts w levels root.length f s.tree
     unfolding marks size fork_of
     stands_fork {f} q =
-        by_fork (λ t. size t ≡ len → Parts w levels len f t) s.tree f s.rooted (sym e ∙ ap as_node q)
+        by_fork (λ t. size t ≡ root.length → Parts w levels root.length f t) s.tree f s.rooted (sym e ∙ ap as_node q)
         (λ m l r h f_is z. rw f_is (record {
           left = record { tree = l; rooted = left_rooted m l r h; total = refl };
           right = record { tree = r; rooted = right_rooted m l r h; total = omega (arith, z) };

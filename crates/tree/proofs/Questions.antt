@@ -6,7 +6,7 @@ use borrow.Author.Tests.{lt-ltb, le-ltb}
 use mathlib.Core.Path.{◌≡◌, refl, sym, ap, ◌∙◌}
 use mathlib.Core.Bool.{Bool, true, false}
 use mathlib.Core.List.{List}
-use mathlib.Core.Option.{Option, none, some}
+use Rattle.std.specs.Prelude.{Option, None, Some}
 use lib.ListN.{length, take, replicate, length-take}
 use Rattle.model.specs.Edit.{leaf_at}
 use Rattle.model.specs.Marks.{access, count, further, rank, select, wanted}
@@ -18,16 +18,14 @@ use Rattle.model.proofs.Counting.{count_append, count_both, further_zero, furthe
 use Rattle.model.proofs.Paths.{access_left, access_right, rank_left, rank_right, select_left, select_right, count_size}
 use Rattle.bits.specs.Choice.{Picked}
 use Rattle.bits.specs.Leaf.{leaf_of, bits_of}
-use Rattle.select.specs.Select.{placed}
 use Rattle.bits.specs.declared.leaf.Leaf.{Leaf}
-use Rattle.select.specs.declared.select.Place.{Place}
-use Rattle.bits.proofs.Held.{held_bits, select_held}
+use Rattle.bits.proofs.Held.{held_bits, rank_held, select_held}
 use Rattle.bits.proofs.TwoWords.{bit_low, bit_high, both_length}
 use Rattle.pool.specs.Layout.{fork_of}
 use Rattle.pool.specs.declared.node.Fork.{Fork}
-use Rattle.tree.specs.Query.{Near, Spotted, found_at, found_of, of_kind}
+use Rattle.tree.specs.Query.{Near, Spotted, found_at, of_kind}
 use Rattle.tree.specs.Stepping.{step_left, step_right}
-use Rattle.tree.specs.declared.query.Found.TheVariants.{At, TooFew}
+use Rattle.tree.specs.declared.query.Spot.{Spot}
 use Rattle.tree.specs.declared.steps.Step.{Step}
 use Rattle.tree.proofs.Down.{On, OnFork, down_left, down_right}
 
@@ -101,11 +99,19 @@ module _ {t₀ : Tree} {place len at sum : ℕ} where
 pub reach_step : {w : List ℕ} {n levels : ℕ} {t₀ : Tree} {place len at sum more : ℕ} {f : Fork}
     (o : OnFork w n levels (Reaching t₀ place len at sum) f) (s : Step)
     → (at < f.left_total → s ≡ step_left f at) → (f.left_total ≤ at → s ≡ step_right f len at)
-    → Picked s.left 0 f.left_ones more → On w s.child (levels - 1) (Reaching t₀ place s.length s.index (sum + more))
+    → Picked s.left 0 f.left_ones more → On w s.child.node (levels - 1) (Reaching t₀ place s.child.length s.index (sum + more))
 reach_step {at = at} {f = f} o s left right x =
     by_ltb at f.left_total
     (λ _ h. rw (x.one (ap (λ (u : Step). u.left) (left h)), left h) (down_left o _ (λ m l r q p. reach_first m l r f q p h)))
     (λ _ h. rw (x.other (ap (λ (u : Step). u.left) (right h)), right h) (down_right o _ (λ m l r q p. reach_second m l r f q p h)))
+
+-- where a place lies tells the strikes before it: those before the leaf, and those before it in the leaf
+pub counted : {t : Tree} {place n : ℕ} {s : Spot} → Spotted t place s → n ≡ rank true s.at (bits_of s.leaf)
+    → s.ones + n ≡ rank true place (marks t)
+counted {s = s} q e =
+    ap (λ (n : ℕ). s.ones + n)
+    (e ∙ ap (λ (x : Leaf). rank true s.at (bits_of x)) q.leaf ∙ rank_held _ true s.at (omega (arith, q.small)) q.within)
+    ∙ q.strikes
 
 -- the bit of a leaf at a place, in the word that holds it
 pub bit_picked : (x : Leaf) (i : ℕ) {first : Bool} {word : ℕ} → Picked first x.low x.high word
@@ -160,24 +166,23 @@ kind_rank t true end h = refl
 kind_rank t false end h = omega (arith, count_both (take end (marks t)), length-take end (marks t), size_marks t)
 
 -- a place before the end is told, counted from the beginning
-found_in : (before total p : ℕ) → before + p < total → found_at before total (Place.At p) ≡ At (before + p)
+found_in : (before total p : ℕ) → before + p < total → found_at before total (Some p) ≡ Some (before + p)
 found_in before total p h = rw (found_at, lt-ltb (before + p) total h)
 
 -- a place past the end is none
-found_past : (before total n : ℕ) (o : Option ℕ) → before + n ≡ total → found_at before total (placed (further n o)) ≡ TooFew
-unfolding placed further
-found_past before total n none h = refl
-found_past before total n (some q) h = rw (found_at, le-ltb (before + (n + q)) total (omega arith))
+found_past : (before total n : ℕ) (o : Option ℕ) → before + n ≡ total → found_at before total (further n o) ≡ None
+unfolding further
+found_past before total n None h = refl
+found_past before total n (Some q) h = rw (found_at, le-ltb (before + (n + q)) total (omega arith))
 
-near_of : (before : ℕ) (o : Option ℕ) → ((p : ℕ) → o ≡ some p → before + p < 2 ^ 64) → Near before (placed o)
-unfolding placed
-near_of before none f = tt
-near_of before (some p) f = f p refl
+near_of : (before : ℕ) (o : Option ℕ) → ((p : ℕ) → o ≡ Some p → before + p < 2 ^ 64) → Near before o
+near_of before None f = tt
+near_of before (Some p) f = f p refl
 
 module _ {t₀ : Tree} {b : Bool} {k skip before : ℕ} where
   -- in a leaf the mark is found, or the leaf is the last and has too few
   module _ (m : ℕ) (xs : List Bool) (x : Leaf) (e : x ≡ leaf_of xs) (h : length xs ≤ 127)
-      (p : Selecting t₀ b k skip before (Tree.leaf m xs)) (r : Place) (a : r ≡ placed (select b (skip + 1) (bits_of x))) where
+      (p : Selecting t₀ b k skip before (Tree.leaf m xs)) (r : Option ℕ) (a : r ≡ select b (skip + 1) (bits_of x)) where
     pub select_near : size t₀ + 128 < 2 ^ 64 → Near before r
     unfolding bits_of size
     select_near l =
@@ -185,27 +190,27 @@ module _ {t₀ : Tree} {b : Bool} {k skip before : ℕ} where
         rw a (near_of before (select b (skip + 1) (bits_of x)) (λ q f. omega (arith, select_below b (skip + 1) (bits_of x) q f, p.room)))
 
     -- the answer on the leaf's marks, and on the zeros past them
-    held : r ≡ placed (select b (skip + 1) (bits_of (leaf_of xs)))
-    held = a ∙ ap (λ (y : Leaf). placed (select b (skip + 1) (bits_of y))) e
+    held : r ≡ select b (skip + 1) (bits_of (leaf_of xs))
+    held = a ∙ ap (λ (y : Leaf). select b (skip + 1) (bits_of y)) e
 
-    pub select_here : (total : ℕ) → size t₀ ≡ total → found_at before total r ≡ found_of (select b k (marks t₀))
-    unfolding marks size placed further
+    pub select_here : (total : ℕ) → size t₀ ≡ total → found_at before total r ≡ select b k (marks t₀)
+    unfolding marks size further
     select_here total z = by_ltb skip (count b xs) (λ _ l. found l) (λ _ l. few l)
       where
-        found : skip < count b xs → found_at before total r ≡ found_of (select b k (marks t₀))
+        found : skip < count b xs → found_at before total r ≡ select b k (marks t₀)
         found l =
             let q = select_some b (skip + 1) xs (omega arith) (omega arith) in
-            ap (found_at before total) (held ∙ ap placed (select_held xs b (skip + 1) (omega arith) (omega arith) ∙ q.1))
+            ap (found_at before total) (held ∙ (select_held xs b (skip + 1) (omega arith) (omega arith) ∙ q.1))
             ∙ found_in before total q.0 (omega (arith, select_below b (skip + 1) xs q.0 q.1, p.room))
-            ∙ ap (λ (o : Option ℕ). found_of (further before o)) (sym q.1) ∙ ap found_of p.place
+            ∙ ap (further before) (sym q.1) ∙ p.place
 
-        few : count b xs ≤ skip → found_at before total r ≡ found_of (select b k (marks t₀))
+        few : count b xs ≤ skip → found_at before total r ≡ select b k (marks t₀)
         few l =
             let zeros : List Bool = replicate (128 - length xs) false in
             let past = ap (select b (skip + 1)) (held_bits xs (omega arith)) ∙ select_in_second b (skip + 1) xs zeros (omega arith) in
-            ap (found_at before total) (held ∙ ap placed past)
+            ap (found_at before total) (held ∙ past)
             ∙ found_past before total (length xs) (select b (skip + 1 - count b xs) zeros) (p.last l ∙ z)
-            ∙ ap (λ (o : Option ℕ). found_of (further before o)) (sym (select_none b (skip + 1) xs (omega arith))) ∙ ap found_of p.place
+            ∙ ap (further before) (sym (select_none b (skip + 1) xs (omega arith))) ∙ p.place
 
   module _ (m : ℕ) (l r : Tree) (f : Fork) (e : f ≡ fork_of l r) (p : Selecting t₀ b k skip before (Tree.fork m l r)) where
     pub select_first : skip < of_kind b f.left_total f.left_ones → Selecting t₀ b k (skip - 0) (before + 0) l

@@ -1,9 +1,10 @@
-// The tree in the node words of a pool: asking it, along one path from the root. Its root and its length come in by
-// value; where they are kept is not known here.
+// The tree in the node words of a pool: asking it, along one path from the root. Its root comes in by value; where that
+// is kept is not known here.
 #![tactic(auto)]
 
 mod query;
+mod root;
 mod steps;
 
-pub use query::{Found, access, leaf_size, rank, select};
-pub use steps::{Step, toward};
+pub use root::{Held, Root};
+pub use steps::Step;

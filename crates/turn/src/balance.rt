@@ -1,4 +1,5 @@
-// A balance is right height less left height, a signed number from -2 to 2, and is stored as two more.
+// A balance is right height less left height, a signed number from -2 to 2, and is stored as two more. A side is a bool
+// here and not an enum, true for the left: the model's laws of both sides go by a Bool (model/specs/Side.antt).
 ghost use Rattle.std.specs.Prelude.{ℕ, ◌≤◌, max, suc};
 ghost use Rattle.turn.specs.Apart.{Apart, Within};
 ghost use Rattle.turn.specs.Sites.{Stores};
@@ -29,10 +30,7 @@ pub fn above(left: i64, right: i64) -> i64
     requires { (Within 99 left) × (Within 99 right) }
     ensures { (x : ℕ) (y : ℕ) (k : ℕ) → Apart left x k → Apart right y k → Apart result (suc (max x y)) k }
 {
-    if left < right {
-        return right + 1;
-    }
-    left + 1
+    left.max(right) + 1
 }
 
 // The number that a balance is stored as, which the child on one side sees so.

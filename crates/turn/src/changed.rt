@@ -8,18 +8,12 @@ ghost use Rattle.turn.specs.Sites.{Leveled, Stale, with_balance};
 
 use crate::balance::{above, seen, stored_from};
 use crate::turning::rebalance;
-use pool::{Fork, fork_at, set_fork};
+use pool::{Fork, fork_at, set_node};
 
 fn with_balance(fork: Fork, balance: u64) -> Fork
     ensures { result ≡ with_balance fork balance }
 {
-    Fork {
-        left: fork.left,
-        right: fork.right,
-        left_total: fork.left_total,
-        left_ones: fork.left_ones,
-        balance: balance,
-    }
+    Fork { balance, ..fork }
 }
 
 // A child of the fork at n, the left one or not, has grown in height by `change`. Sets the fork's balance right and
@@ -34,7 +28,7 @@ pub fn child_changed(nodes: &mut [u64], n: u64, left: bool, change: i64) -> i64
     let fork = fork_at(nodes, n);
     let before = seen(fork.balance, left);
     let after = before + change;
-    set_fork(nodes, n, with_balance(fork, stored_from(after, left)));
+    set_node(nodes, n, with_balance(fork, stored_from(after, left)));
     let grown = above(after, 0) - above(before, 0);
     grown + rebalance(nodes, n)
 }

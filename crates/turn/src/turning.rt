@@ -17,7 +17,7 @@ ghost use Rattle.model.specs.Side.{side};
 ghost use Rattle.turn.specs.Words.{Child, Evened, Moved, Turns, Uneven, leaning, turn, unturned};
 
 use crate::balance::{above, seen, stored_from};
-use pool::{Fork, balance_at, fork_at, set_fork};
+use pool::{Fork, balance_at, fork_at, set_node};
 
 // The balances of the lowered and of the risen node after a turn, seen from A, and by how much the whole has grown in
 // height.
@@ -64,18 +64,16 @@ fn new_forks(top: Fork, child: Fork, left: bool) -> Forks
     if left {
         return Forks {
             lowered: Fork {
-                left: top.left,
                 right: child.left,
-                left_total: top.left_total,
-                left_ones: top.left_ones,
                 balance: lowered,
+                ..top
             },
             risen: Fork {
                 left: top.right,
-                right: child.right,
                 left_total: top.left_total + child.left_total,
                 left_ones: top.left_ones + child.left_ones,
                 balance: risen,
+                ..child
             },
             change: turned.change,
         };
@@ -83,17 +81,15 @@ fn new_forks(top: Fork, child: Fork, left: bool) -> Forks
     Forks {
         lowered: Fork {
             left: child.right,
-            right: top.right,
             left_total: top.left_total - child.left_total,
             left_ones: top.left_ones - child.left_ones,
             balance: lowered,
+            ..top
         },
         risen: Fork {
-            left: child.left,
             right: top.left,
-            left_total: child.left_total,
-            left_ones: child.left_ones,
             balance: risen,
+            ..child
         },
         change: turned.change,
     }
@@ -119,8 +115,8 @@ fn turn(nodes: &mut [u64], n: u64, left: bool) -> i64
     let b = far_child(top, left);
     let child = fork_at(nodes, b);
     let forks = new_forks(top, child, left);
-    set_fork(nodes, b, forks.lowered);
-    set_fork(nodes, n, forks.risen);
+    set_node(nodes, b, forks.lowered);
+    set_node(nodes, n, forks.risen);
     forks.change
 }
 
@@ -142,14 +138,15 @@ pub fn rebalance(nodes: &mut [u64], n: u64) -> i64
         → Evened nodes.old nodes.new result n l r }
 {
     let fork = fork_at(nodes, n);
-    let balance = seen(fork.balance, true);
-    if balance == 2 {
-        lean(nodes, fork.left, true);
-        return turn(nodes, n, false);
+    match seen(fork.balance, true) {
+        2 => {
+            lean(nodes, fork.left, true);
+            turn(nodes, n, false)
+        }
+        -2 => {
+            lean(nodes, fork.right, false);
+            turn(nodes, n, true)
+        }
+        _ => 0,
     }
-    if balance == -2 {
-        lean(nodes, fork.right, false);
-        return turn(nodes, n, true);
-    }
-    0
 }

@@ -10,5 +10,5 @@ pub words_for_pinned : Pinned words_for.Post
 words_for_pinned = one_value (λ κs a r w e. e)
 
 pub values_pinned : (κs : _) (a : _) (r r' : _) (w w' : _) → values.Pre κs a → values.Post κs a r w → values.Post κs a r' w'
-    → w.1.1.1.0.now ≡ w'.1.1.1.0.now
-values_pinned κs a r r' w w' t p q = p t.0 t.1 t.2 ∙ sym (q t.0 t.1 t.2)
+    → w.1.1.0.now ≡ w'.1.1.0.now
+values_pinned κs a r r' w w' t p q = p t.0 ∙ sym (q t.0)

@@ -1,35 +1,30 @@
 -- What build answers by its tests, and that the pool that the model builds then stands in the words.
-use Prim.Native.Nat.{ℕ, ◌+◌, ◌-◌, ◌*◌, ◌≤◌, ◌<◌}
+use Prim.Native.Nat.{ℕ, ◌-◌, ◌*◌, ◌≤◌, ◌<◌}
 use native.Mathlib.Omega.{arith}
 use borrow.Rule.Slice.PartMut.{put_mid, post_of}
 use mathlib.Core.Path.{◌≡◌, refl, sym, ap, ap₂, ◌∙◌}
-use mathlib.Core.Bool.{Bool}
 use mathlib.Core.List.{List, [], ◌∷◌, ◌++◌, append-nil}
-use mathlib.Core.Option.{Option, none, some}
+use Rattle.std.specs.Prelude.{Option, None, Some, Ok, Err}
 use lib.ListN.{length, take, drop, length-append, length-drop, drop_of_length-le}
 use lib.Seq.{length-take-le, take_at, drop_at}
-use Rattle.model.specs.Build as Build
 use Rattle.model.specs.Build.{leaf_count}
 use Rattle.model.specs.Limits.{most_nodes}
 use Rattle.model.specs.Pool as Pool
 use Rattle.model.specs.Pool.{Pool, nodes_for}
 use Rattle.model.specs.Sound.{Sound}
-use Rattle.model.specs.Tree.{size}
 use Rattle.model.specs.Word.{marks_of}
-use Rattle.model.proofs.BuiltContent.{build_marks}
-use Rattle.model.proofs.Content.{size_marks}
 use Rattle.model.proofs.PoolCases.{build_outcomes}
-use Rattle.model.proofs.PoolSound.{build_sound, build_tree}
+use Rattle.model.proofs.PoolSound.{build_sound}
 use Rattle.build.specs.Built as Built
-use Rattle.build.specs.declared.building.Built as B
 use Rattle.build.proofs.LeafMarks.{marks_of_length}
 use Rattle.build.proofs.OnePool.{builds}
 use Rattle.pool.specs.Node.{nodes_in}
 use Rattle.pool.specs.Layout.{Laid}
+use Rattle.tree.specs.declared.root.Held.{Held}
 use Rattle.window.specs.Calls.{NoPool, BuildsTo}
 use Rattle.window.specs.Layout.{Counted, Stands, trailer_of}
-use Rattle.order.specs.declared.answer.Answer.TheVariants.{Done, Full, WrongSize, TooLong}
-use Rattle.window.proofs.OneState.{counted_one, nodes_are, nodes_length, trailer_length}
+use Rattle.order.specs.declared.answer.Refusal.TheVariants.{Full, WrongSize, TooLong}
+use Rattle.window.proofs.OneState.{counted_one, nodes_are, nodes_length}
 
 -- ---- the marks that are built
 
@@ -38,28 +33,22 @@ module _ (words : List ℕ) (len : ℕ) (given : len ≤ 64 * length words) wher
   built_length = length-take-le len (marks_of words) (omega (arith, marks_of_length words))
 
   -- the model refuses exactly where there are too few nodes
-  pub refused : (n : ℕ) → Pool.build n (take len (marks_of words)) ≡ none → n < 2 * leaf_count len - 1
+  pub refused : (n : ℕ) → Pool.build n (take len (marks_of words)) ≡ None → n < 2 * leaf_count len - 1
   unfolding nodes_for
   refused n =
-      build_outcomes (λ (o : Option Pool). o ≡ none → n < 2 * leaf_count len - 1) n (take len (marks_of words))
+      build_outcomes (λ (o : Option Pool). o ≡ None → n < 2 * leaf_count len - 1) n (take len (marks_of words))
       (λ h _. rw built_length at h) (λ _ e. let never : ◌≡◌ {A = ℕ} 0 1 = cc in absurd (omega arith))
 
-  pub accepted : (n : ℕ) (p : Pool) → Pool.build n (take len (marks_of words)) ≡ some p → 2 * leaf_count len - 1 ≤ n
+  pub accepted : (n : ℕ) (p : Pool) → Pool.build n (take len (marks_of words)) ≡ Some p → 2 * leaf_count len - 1 ≤ n
   unfolding nodes_for
   accepted n p =
-      build_outcomes (λ (o : Option Pool). o ≡ some p → 2 * leaf_count len - 1 ≤ n) n (take len (marks_of words))
+      build_outcomes (λ (o : Option Pool). o ≡ Some p → 2 * leaf_count len - 1 ≤ n) n (take len (marks_of words))
       (λ _ e. let never : ◌≡◌ {A = ℕ} 0 1 = cc in absurd (omega arith)) (λ h _. rw built_length at h)
-
-  -- the pool that it builds is sound, and holds so many marks
-  pub built_sound : (n : ℕ) (p : Pool) → Pool.build n (take len (marks_of words)) ≡ some p → Sound n p × (size p.tree ≡ len)
-  built_sound n p e =
-      let xs : List Bool = take len (marks_of words) in
-      (build_sound n xs p e, ap size (build_tree n xs p e) ∙ size_marks (Build.build xs) ∙ ap length (build_marks xs) ∙ built_length)
 
 -- ---- the answers
 
 module _ (ws words : List ℕ) (len : ℕ) where
-  pub no_built : NoPool ws → BuildsTo ws words len WrongSize ws
+  pub no_built : NoPool ws → BuildsTo ws words len (Err WrongSize) ws
   no_built d = record {
     no_pool = λ _. (refl, refl);
     too_long = λ n c _. absurd (d n c);
@@ -68,7 +57,7 @@ module _ (ws words : List ℕ) (len : ℕ) where
   }
 
   module _ (n : ℕ) (c : Counted ws n) where
-    pub long_built : 64 * length words < len → BuildsTo ws words len TooLong ws
+    pub long_built : 64 * length words < len → BuildsTo ws words len (Err TooLong) ws
     long_built h = record {
       no_pool = λ d. absurd (d n c);
       too_long = λ _ _ _. (refl, refl);
@@ -76,7 +65,7 @@ module _ (ws words : List ℕ) (len : ℕ) where
       built = λ _ _ _ k _. absurd (omega arith);
     }
 
-    pub full_built : len ≤ 64 * length words → n < 2 * leaf_count len - 1 → BuildsTo ws words len Full ws
+    pub full_built : len ≤ 64 * length words → n < 2 * leaf_count len - 1 → BuildsTo ws words len (Err Full) ws
     full_built g h = record {
       no_pool = λ d. absurd (d n c);
       too_long = λ _ _ k. absurd (omega arith);
@@ -85,7 +74,7 @@ module _ (ws words : List ℕ) (len : ℕ) where
     }
 
     pub done_built : (ws' : List ℕ) → len ≤ 64 * length words → 2 * leaf_count len - 1 ≤ n
-        → ((p : Pool) → Pool.build n (take len (marks_of words)) ≡ some p → Stands ws' n p) → BuildsTo ws words len (Done len) ws'
+        → ((p : Pool) → Pool.build n (take len (marks_of words)) ≡ Some p → Stands ws' n p) → BuildsTo ws words len (Ok len) ws'
     done_built ws' g h s = record {
       no_pool = λ d. absurd (d n c);
       too_long = λ _ _ k. absurd (omega arith);
@@ -106,12 +95,12 @@ stands_with w six n p l fine least most e = record {
 }
 
 -- the same of a pool that was built
-pub stands_in : (w : List ℕ) (n : ℕ) (r : B.Built) (p : Pool) → Built.BuiltAs w n r p → Sound n p → 1 ≤ n → n ≤ most_nodes
-    → Stands (w ++ r.root ∷ size p.tree ∷ r.chain.first ∷ r.chain.count ∷ n ∷ 0 ∷ []) n p
+pub stands_in : (w : List ℕ) (n : ℕ) (r : Held) (p : Pool) → Built.BuiltAs w n r p → Sound n p → 1 ≤ n → n ≤ most_nodes
+    → Stands (w ++ r.tree.node ∷ r.tree.length ∷ r.chain.first ∷ r.chain.count ∷ n ∷ 0 ∷ []) n p
 unfolding trailer_of
 stands_in w n r p s fine least most =
-    stands_with w (r.root ∷ size p.tree ∷ r.chain.first ∷ r.chain.count ∷ n ∷ 0 ∷ []) n p s.laid fine least most
-    (λ i. s.root i ∷ size p.tree ∷ s.first i ∷ s.count i ∷ n ∷ 0 ∷ [])
+    stands_with w (r.tree.node ∷ r.tree.length ∷ r.chain.first ∷ r.chain.count ∷ n ∷ 0 ∷ []) n p s.laid fine least most
+    (λ i. s.root i ∷ s.total i ∷ s.first i ∷ s.count i ∷ n ∷ 0 ∷ [])
 
 -- a trailer put over all that stood behind the nodes
 pub put_behind : (w behind six : List ℕ) (a : ℕ) → length w ≡ a → put_mid a (length (w ++ behind) - a) (w ++ behind) six ≡ w ++ six
@@ -127,8 +116,8 @@ pub record Fits (ws words : List ℕ) (len n : ℕ) : Type 0 where
   pub enough : 2 * leaf_count len - 1 ≤ n
 
 -- what building the tree leaves in the nodes
-abbrev pub Leaves : List ℕ → ℕ → ℕ → List ℕ → B.Built → Type 0
-Leaves words len n w r = (p : Pool) → Pool.build n (take len (marks_of words)) ≡ some p → Built.BuiltAs w n r p
+abbrev pub Leaves : List ℕ → ℕ → ℕ → List ℕ → Held → Type 0
+Leaves words len n w r = (p : Pool) → Pool.build n (take len (marks_of words)) ≡ Some p → Built.BuiltAs w n r p
 
 module _ {ws words : List ℕ} {len n : ℕ} (f : Fits ws words len n) where
   pub fits_room : Built.Room (take (n * 6) ws) words len
@@ -140,31 +129,17 @@ module _ {ws words : List ℕ} {len n : ℕ} (f : Fits ws words len n) where
   }
 
   -- some pool is built
-  found : (p : Pool) × (Pool.build n (take len (marks_of words)) ≡ some p)
+  found : (p : Pool) × (Pool.build n (take len (marks_of words)) ≡ Some p)
   unfolding nodes_for
   found = builds n (take len (marks_of words)) (rw (built_length words len f.given) f.enough)
 
-  module _ (w : List ℕ) (r : B.Built) (l : Leaves words len (nodes_in (take (n * 6) ws)) w r) where
+  module _ (w : List ℕ) (r : Held) (l : Leaves words len (nodes_in (take (n * 6) ws)) w r) where
     left : Leaves words len n w r
     left = rw (nodes_are ws n f.counted) at l
 
-    nodes_left : length w ≡ n * 6
-    nodes_left = (left found.0 found.1).laid.words
-
-    pub after_length : length (w ++ drop (n * 6) ws) ≡ n * 6 + 6
-    after_length = length-append w (drop (n * 6) ws) ∙ omega (arith, nodes_left, trailer_length ws n f.counted)
-
-    pub after_trailer : length (take (length (w ++ drop (n * 6) ws) - n * 6) (drop (n * 6) (w ++ drop (n * 6) ws))) ≡ 6
-    after_trailer =
-        length-take-le (length (w ++ drop (n * 6) ws) - n * 6) (drop (n * 6) (w ++ drop (n * 6) ws))
-        (omega (arith, length-drop (n * 6) (w ++ drop (n * 6) ws)))
-        ∙ omega (arith, after_length)
-
-    pub after_stands : (six : List ℕ) → six ≡ r.root ∷ len ∷ r.chain.first ∷ r.chain.count ∷ n ∷ 0 ∷ []
-        → BuildsTo ws words len (Done len) (put_mid (n * 6) (length (w ++ drop (n * 6) ws) - n * 6) (w ++ drop (n * 6) ws) six)
+    -- what stands in the pool, once its trailer is put behind the nodes
+    pub after_stands : (six : List ℕ) → six ≡ r.tree.node ∷ r.tree.length ∷ r.chain.first ∷ r.chain.count ∷ n ∷ 0 ∷ []
+        → BuildsTo ws words len (Ok len) (w ++ six)
     after_stands six e =
         done_built ws words len n f.counted _ f.given f.enough
-        (λ p b.
-        let fine : Sound n p × (size p.tree ≡ len) = built_sound words len f.given n p b in
-        rw (put_behind w (drop (n * 6) ws) six (n * 6) nodes_left, e, sym fine.1)
-        (stands_in w n r p (left p b) fine.0 f.counted.some f.counted.most))
+        (λ p b. rw e (stands_in w n r p (left p b) (build_sound n (take len (marks_of words)) p b) f.counted.some f.counted.most))

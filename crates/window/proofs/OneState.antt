@@ -14,6 +14,7 @@ use Rattle.pool.specs.Node.{nodes_in}
 use Rattle.pool.proofs.Cells.{nodes_in_of}
 use Rattle.pool.proofs.Standing.{holds_one, chained_one}
 use Rattle.sound.specs.Judged.{Correct}
+use Rattle.tree.specs.declared.root.Held.{Held}
 use Rattle.window.specs.Layout.{Counted, Stands, WellFormed, trailer_of, trailer_in}
 use Rattle.window.specs.declared.trailer.Trailer.{Trailer}
 
@@ -50,7 +51,11 @@ module _ (ws : List ℕ) (n : ℕ) (c : Counted ws n) where
     abbrev told : Trailer
     told = trailer_in (drop (n * 6) ws)
 
-    pub correct_stands : told.nodes ≡ n → told.last ≡ 0 → Correct (take (n * 6) ws) told.root told.length told.chain p → Stands ws n p
+    abbrev held : Held
+    held = told.held
+
+    pub correct_stands : told.nodes ≡ n → told.last ≡ 0 → Correct (take (n * 6) ws) held.tree.node held.tree.length held.chain p
+        → Stands ws n p
     unfolding trailer_of
     correct_stands e l r = record {
       counted = c;
@@ -69,15 +74,15 @@ module _ (ws : List ℕ) (n : ℕ) (c : Counted ws n) where
     unfolding trailer_of
     stands_last s = rw s.trailer
 
-    pub stands_length : Stands ws n p → told.length ≡ size p.tree
+    pub stands_length : Stands ws n p → held.tree.length ≡ size p.tree
     unfolding trailer_of
     stands_length s = rw s.trailer
 
-    pub stands_root : Stands ws n p → told.root ≡ top p.tree
+    pub stands_root : Stands ws n p → held.tree.node ≡ top p.tree
     unfolding trailer_of
     stands_root s = rw s.trailer
 
-    pub stands_correct : Stands ws n p → Correct (take (n * 6) ws) told.root told.length told.chain p
+    pub stands_correct : Stands ws n p → Correct (take (n * 6) ws) held.tree.node held.tree.length held.chain p
     unfolding trailer_of
     stands_correct s = record {
       laid = rw nodes_are s.nodes;

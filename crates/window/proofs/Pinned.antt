@@ -7,7 +7,7 @@ use Prim.Native.Nat.{ℕ, ◌*◌, ◌≤◌}
 use native.Mathlib.Omega.{arith}
 use mathlib.Core.Path.{◌≡◌, refl, sym, ap, ap₂, ◌∙◌}
 use mathlib.Core.List.{List, [], ◌∷◌, ◌++◌}
-use mathlib.Core.Option.{Option, none, some}
+use Rattle.std.specs.Prelude.{Option, None, Some, Result, Ok, Err}
 use lib.ListN.{length, take, drop, get_or, take-append-drop}
 use Rattle.model.specs.Contract.{Pinned}
 use Rattle.model.specs.Pool as Pool
@@ -16,13 +16,12 @@ use Rattle.model.specs.Tree.{size}
 use Rattle.model.specs.Word.{marks_of, words_for}
 use Rattle.model.proofs.Cases.{by_ltb}
 use Rattle.build.proofs.OnePool.{laid_one}
-use Rattle.order.specs.Answer.{code, value}
+use Rattle.order.specs.Answer.{Answer, code, value}
 use Rattle.window.specs.Calls.{NoPool, Damaged, Checked, BuildsTo, Judges, Measures, Valued}
 use Rattle.window.specs.Layout.{Counted, Stands}
-use Rattle.order.specs.declared.answer.Answer.{Answer}
-use Rattle.order.specs.declared.answer.Answer.TheVariants.{Done, OutOfRange, NoZeroth, TooFew, Full, Malformed, WrongSize, NotSound, ShortOutput, PartOrder, TooLong, LeafLacks}
-use Rattle.window.specs.declared.calls.Judgement.{Judgement}
-use Rattle.window.specs.declared.calls.Judgement.TheVariants.{Stands as Stands', Damaged as Damaged'}
+use Rattle.order.specs.declared.answer.Refusal.{Refusal}
+use Rattle.order.specs.declared.answer.Refusal.TheVariants.{OutOfRange, NoZeroth, TooFew, Full, Malformed, WrongSize, NotSound, ShortOutput, PartOrder, TooLong, LeafLacks}
+use Rattle.window.specs.declared.trailer.Trailer.{Trailer}
 use Rattle.window.proofs.OneState.{counted_one}
 use Rattle.window.proofs.calls.build.Reads as build
 use Rattle.window.proofs.calls.check.Reads as check
@@ -36,23 +35,24 @@ use Rattle.window.proofs.trailer.trailer_of.Reads as trailer_of
 
 -- the answer of a number and a value
 answer_of : ℕ → ℕ → Answer
-answer_of n v = get_or (Done v ∷ OutOfRange ∷ NoZeroth ∷ TooFew ∷ Full ∷ Malformed ∷ WrongSize ∷ NotSound ∷ ShortOutput ∷ PartOrder ∷ TooLong ∷
-    []) n LeafLacks
+answer_of n v =
+    get_or (Ok v ∷ Err OutOfRange ∷ Err NoZeroth ∷ Err TooFew ∷ Err Full ∷ Err Malformed ∷ Err WrongSize ∷ Err NotSound ∷ Err ShortOutput
+    ∷ Err PartOrder ∷ Err TooLong ∷ []) n (Err LeafLacks)
 
 answer_is : (a : Answer) → answer_of (code a) (value a) ≡ a
 unfolding answer_of code value
-answer_is (Done v) = refl
-answer_is OutOfRange = refl
-answer_is NoZeroth = refl
-answer_is TooFew = refl
-answer_is Full = refl
-answer_is Malformed = refl
-answer_is WrongSize = refl
-answer_is NotSound = refl
-answer_is ShortOutput = refl
-answer_is PartOrder = refl
-answer_is TooLong = refl
-answer_is LeafLacks = refl
+answer_is (Ok v) = refl
+answer_is (Err OutOfRange) = refl
+answer_is (Err NoZeroth) = refl
+answer_is (Err TooFew) = refl
+answer_is (Err Full) = refl
+answer_is (Err Malformed) = refl
+answer_is (Err WrongSize) = refl
+answer_is (Err NotSound) = refl
+answer_is (Err ShortOutput) = refl
+answer_is (Err PartOrder) = refl
+answer_is (Err TooLong) = refl
+answer_is (Err LeafLacks) = refl
 
 -- an answer is told by its number and its value
 pub one_answer : (a b : Answer) → code a ≡ code b → value a ≡ value b → a ≡ b
@@ -127,24 +127,24 @@ builds_one ws words len a b vs us p q =
     (λ _ h. made n c h (Pool.build n (take len (marks_of words))) refl)))
   where
     made : (n : ℕ) → Counted ws n → len ≤ 64 * length words → (o : Option Pool) → Pool.build n (take len (marks_of words)) ≡ o → Same a vs b us
-    made n c h none e = both (p.full n c h e) (q.full n c h e)
-    made n c h (some s) e =
+    made n c h None e = both (p.full n c h e) (q.full n c h e)
+    made n c h (Some s) e =
         let x = p.built n s c h e in
         let y = q.built n s c h e in
         (x.0 ∙ sym y.0, one_layout vs us n s x.1 y.1)
 
 -- how many nodes there are
-measured_one : (ws : List ℕ) (m n : ℕ) → Measures ws m → Measures ws n → m ≡ n
-measured_one ws m n p q =
-    by_ltb 0 m
-    (λ _ h. by_ltb 0 n (λ _ k. counted_one ws m n (p.yes h) (q.yes k)) (λ _ k. absurd (q.no (omega arith) m (p.yes h))))
-    (λ _ h. by_ltb 0 n (λ _ k. absurd (p.no (omega arith) n (q.yes k))) (λ _ k. omega arith))
+measured_one : (ws : List ℕ) (a b : Result ℕ Refusal) → Measures ws a → Measures ws b → a ≡ b
+measured_one ws (Ok m) (Ok n) p q = ap Ok (counted_one ws m n p q)
+measured_one ws (Ok m) (Err e) p q = absurd (q.1 m p)
+measured_one ws (Err d) (Ok n) p q = absurd (p.1 n q)
+measured_one ws (Err d) (Err e) p q = ap Err (p.0 ∙ sym q.0)
 
-judged_one : (ws : List ℕ) (n : ℕ) (a b : Judgement) → Judges ws n a → Judges ws n b → a ≡ b
-judged_one ws n (Stands' t) (Stands' u) p q = ap Stands' (p.2 ∙ sym q.2)
-judged_one ws n (Stands' t) Damaged' p q = absurd (q (n, p.0, p.1))
-judged_one ws n Damaged' (Stands' u) p q = absurd (p (n, q.0, q.1))
-judged_one ws n Damaged' Damaged' p q = refl
+judged_one : (ws : List ℕ) (n : ℕ) (a b : Result Trailer Refusal) → Judges ws n a → Judges ws n b → a ≡ b
+judged_one ws n (Ok t) (Ok u) p q = ap Ok (p.2 ∙ sym q.2)
+judged_one ws n (Ok t) (Err e) p q = absurd (q.1 (n, p.0, p.1))
+judged_one ws n (Err d) (Ok u) p q = absurd (p.1 (n, q.0, q.1))
+judged_one ws n (Err d) (Err e) p q = ap Err (p.0 ∙ sym q.0)
 
 -- ---- as the source has them
 

@@ -12,7 +12,8 @@ use Rattle.model.specs.Tree.{marks, size}
 use Rattle.model.specs.Word.{words_for, words_of}
 use Rattle.window.specs.Calls.{NoPool, Checked, Valued}
 use Rattle.window.specs.Layout.{Counted, Stands, WellFormed}
-use Rattle.order.specs.declared.answer.Answer.TheVariants.{Done, WrongSize, NotSound, ShortOutput}
+use Rattle.std.specs.Prelude.{Ok, Err}
+use Rattle.order.specs.declared.answer.Refusal.TheVariants.{WrongSize, NotSound, ShortOutput}
 use Rattle.window.proofs.OneState.{one_state}
 
 -- what is answered no does not hold
@@ -23,7 +24,7 @@ module _ (ws : List ℕ) where
   -- ---- no pool has so many words
 
   module _ (none : NoPool ws) where
-    pub no_checked : Checked ws WrongSize
+    pub no_checked : Checked ws (Err WrongSize)
     no_checked = record {
       no_pool =
           λ _. refl;
@@ -31,7 +32,7 @@ module _ (ws : List ℕ) where
       sound = λ n p s. absurd (none n s.counted);
     }
 
-    pub no_valued : (out : List ℕ) → Valued ws out WrongSize out
+    pub no_valued : (out : List ℕ) → Valued ws out (Err WrongSize) out
     no_valued out = record {
       no_pool = λ _. (refl, refl);
       damaged = λ d. absurd (none d.count.0 d.count.1);
@@ -42,10 +43,10 @@ module _ (ws : List ℕ) where
   -- ---- no pool stands in them
 
   module _ (n : ℕ) (c : Counted ws n) (none : WellFormed ws → ⊥) where
-    pub damaged_checked : Checked ws NotSound
+    pub damaged_checked : Checked ws (Err NotSound)
     damaged_checked = record { no_pool = λ d. absurd (d n c); damaged = λ _. refl; sound = λ m p s. absurd (none (m, p, s)) }
 
-    pub damaged_valued : (out : List ℕ) → Valued ws out NotSound out
+    pub damaged_valued : (out : List ℕ) → Valued ws out (Err NotSound) out
     damaged_valued out = record {
       no_pool = λ d. absurd (d n c);
       damaged = λ _. (refl, refl);
@@ -59,15 +60,15 @@ module _ (ws : List ℕ) where
     same_size : (m : ℕ) (q : Pool) → Stands ws m q → size p.tree ≡ size q.tree
     same_size m q t = ap (λ (x : Pool). size x.tree) (one_state ws n m p q s t)
 
-    pub stands_checked : (len : ℕ) → len ≡ size p.tree → Checked ws (Done len)
+    pub stands_checked : (len : ℕ) → len ≡ size p.tree → Checked ws (Ok len)
     stands_checked len e = record {
       no_pool = λ d. absurd (d n s.counted);
       damaged = λ d. absurd (d.none (n, p, s));
-      sound = λ m q t. ap Done (e ∙ same_size m q t);
+      sound = λ m q t. ap Ok (e ∙ same_size m q t);
     }
 
     -- the output is too short
-    pub short_valued : (out : List ℕ) → length out < words_for (size p.tree) → Valued ws out ShortOutput out
+    pub short_valued : (out : List ℕ) → length out < words_for (size p.tree) → Valued ws out (Err ShortOutput) out
     short_valued out h = record {
       no_pool = λ d. absurd (d n s.counted);
       damaged = λ d. absurd (d.none (n, p, s));
@@ -77,12 +78,12 @@ module _ (ws : List ℕ) where
 
     -- the marks are written
     pub written_valued : (out out' : List ℕ) (k : ℕ) → k ≡ words_for (size p.tree) → words_for (size p.tree) ≤ length out
-        → out' ≡ words_of k (marks p.tree) ++ drop k out → Valued ws out (Done k) out'
+        → out' ≡ words_of k (marks p.tree) ++ drop k out → Valued ws out (Ok k) out'
     written_valued out out' k e h w = record {
       no_pool = λ d. absurd (d n s.counted);
       damaged = λ d. absurd (d.none (n, p, s));
       short = λ m q t l. absurd (omega (arith, h, l, ap words_for (same_size m q t)));
       written = λ m q t _.
           let same : p ≡ q = one_state ws n m p q s t in
-          (ap Done (e ∙ ap (λ (x : Pool). words_for (size x.tree)) same), w ∙ rw (e, same));
+          (ap Ok (e ∙ ap (λ (x : Pool). words_for (size x.tree)) same), w ∙ rw (e, same));
     }

@@ -24,9 +24,11 @@ trailer_of n p = top p.tree ∷ size p.tree ∷ first_of n p.free ∷ length p.f
 abbrev pub trailer_in : List ℕ → Trailer
 trailer_in ws =
     record {
-      root = get_or ws 0 0;
-      length = get_or ws 1 0;
-      chain = record { first = get_or ws 2 0; count = get_or ws 3 0 };
+      held =
+          record {
+            tree = record { node = get_or ws 0 0; length = get_or ws 1 0 };
+            chain = record { first = get_or ws 2 0; count = get_or ws 3 0 };
+          };
       nodes = get_or ws 4 0;
       last = get_or ws 5 0;
     }

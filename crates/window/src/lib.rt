@@ -5,5 +5,5 @@
 mod calls;
 mod trailer;
 
-pub use calls::{Judgement, NODE_WORDS, build, check, judged, nodes_of, values};
+pub use calls::{NODE_WORDS, build, check, judged, nodes_of, values};
 pub use trailer::{Trailer, set_trailer, trailer_of};

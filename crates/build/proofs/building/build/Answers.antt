@@ -8,39 +8,10 @@ use lib.ListN.{length, take}
 use lib.Seq.{length-take-le}
 use Rattle.model.specs.Build.{built_leaves, leaf_count}
 use Rattle.model.specs.Word.{marks_of}
-use Rattle.model.proofs.Rounds.{leaf_count_some}
 use Rattle.pool.specs.Node.{nodes_in}
 use Rattle.build.proofs.LeafMarks.{marks_of_length}
 use Rattle.build.proofs.WholeBuild.{stands}
 use Rattle.build.proofs.building.build.Goals as goal
-
-pub rounds-root-requires : goal.rounds-root-requires
-rounds-root-requires c =
-    let a = c.args in
-    let n = c.leaf_count-leaves in
-    let p = c.put_leaves-row in
-    let some = leaf_count_some a.length in
-    let e = n.ensures in
-    let size = p.ensures.kept in
-    let many = p.ensures.many in
-    let xs : List Bool = take a.length (marks_of a.words.now) in (
-      omega arith,
-      record {
-        enough = omega arith;
-        few = omega arith;
-        these = reverse (built_leaves 0 n.result xs);
-        wait = p.ensures.wait;
-      },
-    )
-
-pub overflow_sub-leaves : goal.overflow_sub-leaves
-overflow_sub-leaves c =
-    omega (
-      arith,
-      leaf_count_some
-          c.args.length,
-      c.leaf_count-leaves.ensures,
-    )
 
 pub returns : goal.returns
 returns c p f =
@@ -49,19 +20,19 @@ returns c p f =
     let k : ℕ = c.leaf_count-leaves.result in
     let e = c.leaf_count-leaves.ensures in
     let leaves = c.put_leaves-row in
-    let root = c.rounds-root in
+    let node = c.rounds-node in
     let chain = c.chain_from-chain in
     let xs : List Bool = take a.length (marks_of a.words.now) in
     let all : length xs ≡ a.length =
     length-take-le a.length (marks_of a.words.now) (omega (arith, marks_of_length a.words.now, room.given)) in
     let one = leaves.ensures.kept in
-    let two = root.ensures.kept in
+    let two = node.ensures.kept in
     let three = chain.ensures.kept in
     let first : chain.result.first ≡ 2 * k - 1 = omega (arith, chain.ensures.begin) in
     let many : chain.result.count ≡ nodes_in a.nodes.now - (2 * k - 1) = omega (arith, chain.ensures.many) in
-    let same : nodes_in root.new.nodes ≡ nodes_in a.nodes.now = omega arith in
+    let same : nodes_in node.new.nodes ≡ nodes_in a.nodes.now = omega arith in
     let need : k * 2 - 1 ≡ 2 * k - 1 = omega arith in
-    stands root.new.nodes chain.new.nodes (nodes_in a.nodes.now) k xs _ p
+    stands node.new.nodes chain.new.nodes (nodes_in a.nodes.now) k xs _ p
     (e ∙ ap leaf_count (sym all)) f (omega (arith, room.enough))
-    (rw leaves.ensures.many at (root.ensures.done (reverse (built_leaves 0 k xs)) leaves.ensures.wait))
+    (rw leaves.ensures.many at (node.ensures.done (reverse (built_leaves 0 k xs)) leaves.ensures.wait)) (sym all)
     (rw need at chain.ensures.below) (omega (arith, room.whole)) first many (rw (same, need) at chain.ensures.chain)

@@ -1,10 +1,6 @@
--- What the loop keeps, and the measure that falls.
-use Prim.Native.Nat.{◌-◌, ◌≤◌}
+-- What the loop keeps.
 use Rattle.build.proofs.FreeChain.{Freed}
 use Rattle.build.proofs.building.chain_from.Given as goal
 
 abbrev pub invariant-loop-n : goal.invariant-loop-n
-invariant-loop-n l = (l.first ≤ l.n) × (l.n ≤ l.end) × Freed l.initial.nodes l.nodes l.first l.n
-
-abbrev pub decreases-loop-n : goal.decreases-loop-n
-decreases-loop-n l = l.end - l.n
+invariant-loop-n l = Freed l.initial.nodes l.nodes l.first l.n

@@ -1,4 +1,4 @@
--- The left tree's strikes are those before its end; the height of the fork is what `above` says, and all else is written as it stands.
+-- The left tree's strikes are those before its end; all else is written as it stands.
 -- Assumes nothing.
 use Prim.Native.Nat.{ℕ, ◌+◌}
 use native.Mathlib.Omega.{arith}
@@ -19,16 +19,15 @@ rank-all t n e = ap (count true) (take_all n (marks t) (omega (arith, size_marks
 
 pub rank-ones-requires : goal.rank-ones-requires
 rank-ones-requires c =
-    let p = c.requires in
-    (p.stands.tree, p.stands.rooted, p.stands.total, omega arith)
+    (c.requires.stands, omega arith)
 
 pub returns : goal.returns
 returns c =
     let a = c.args in
-    let item : ℕ → Item = λ h. record { node = a.n; total = a.left.total + a.right.total; height = h } in
+    let item : ℕ → Item = λ h. record { tree = record { node = a.n; length = a.left.tree.length + a.right.tree.length }; height = h } in
     record {
-      item = ap item c.above.ensures;
+      item = ap item (omega arith);
       stored = λ s.
-          let ones = c.rank-ones.ensures s.tree s.rooted s.total ∙ rank-all s.tree a.left.total s.total in
-          c.set_fork.ensures ∙ ap (λ (k : ℕ). put a.nodes.now a.n (fork_cell (fork_over a.left a.right k))) ones;
+          let ones = c.rank-ones.ensures s ∙ rank-all s.tree a.left.tree.length s.total in
+          c.set_node.ensures ∙ ap (λ (k : ℕ). put a.nodes.now a.n (fork_cell (fork_over a.left a.right k))) ones;
     }

@@ -1,18 +1,14 @@
 -- The count of leaves is its definition, at zero and past it. Assumes nothing.
-use Prim.Native.Nat.{ℕ, zero, suc, ◌-◌, ◌+◌, ◌/◌}
+use Prim.Native.Nat.{ℕ, zero, suc, ◌+◌, ◌/◌, ◌%◌, max, min}
 use native.Mathlib.Omega.{arith}
-use mathlib.Core.Path.{◌≡◌}
+use mathlib.Core.Path.{◌≡◌, ap, ◌∙◌}
 use Rattle.model.specs.Build.{leaf_count}
 use Rattle.build.proofs.building.leaf_count.Goals as goal
 
-some-count : (n : ℕ) → (n ≡ 0 → ⊥) → (n - 1) / 64 + 1 ≡ leaf_count n
+counted : (n : ℕ) → max (n / 64 + min 1 (n % 64)) 1 ≡ leaf_count n
 unfolding leaf_count
-some-count zero h = absurd (omega arith)
-some-count (suc n) h = omega arith
-
-pub returns-then-length-eq0 : goal.returns-then-length-eq0
-unfolding leaf_count
-returns-then-length-eq0 c = rw c.if-length-eq0.true
+counted zero = omega arith
+counted (suc n) = omega arith
 
 pub returns : goal.returns
-returns c = some-count c.args.length c.if-length-eq0.false
+returns c = c.max.ensures ∙ ap (λ (k : ℕ). max k 1) c.div_ceil.ensures ∙ counted c.args.length

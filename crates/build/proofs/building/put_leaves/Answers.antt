@@ -14,7 +14,7 @@ use Rattle.pool.specs.Node.{leaf_cell, put}
 use Rattle.build.specs.Waiting.{leaf_marks}
 use Rattle.build.proofs.LeafMarks.{marks_of_length}
 use Rattle.build.proofs.OneRound.{leaf_begins}
-use Rattle.build.proofs.PutLeaves.{all_begun, none_begun, one_begun}
+use Rattle.build.proofs.PutLeaves.{all_begun, one_begun}
 use Rattle.build.proofs.building.put_leaves.Goals as goal
 
 -- the marks are as many as are built
@@ -22,11 +22,6 @@ all-marks : (words : List ℕ) (length leaves : ℕ) → length ≤ 64 * count_o
     → leaves ≡ leaf_count (count_of (take length (marks_of words)))
 all-marks words length leaves given e =
     e ∙ ap leaf_count (sym (length-take-le length (marks_of words) (omega (arith, marks_of_length words))))
-
-pub loop-i-init : goal.loop-i-init
-loop-i-init c =
-    let a = c.args in
-    (omega arith, refl, none_begun a.nodes.now (take a.length (marks_of a.words.now)) a.leaves)
 
 pub leaf_of_words-requires : goal.leaf_of_words-requires
 leaf_of_words-requires c =
@@ -39,12 +34,11 @@ unfolding leaf_marks
 loop-i-preserved c =
     let s = c.loop-i in
     let a = c.args in
-    let p = c.set_leaf in
+    let p = c.set_node in
     let size : count_of p.new.nodes ≡ count_of s.nodes = p.auto.nodes in
     let leaf : Leaf → List ℕ = λ l. put s.nodes s.i (leaf_cell l) in (
       omega arith,
-      omega arith,
-      rw add-one (one_begun p.new.nodes s.invariant.2 (all-marks a.words.now a.length a.leaves c.requires.given c.requires.all)
+      rw add-one (one_begun p.new.nodes s.invariant.1 (all-marks a.words.now a.length a.leaves c.requires.given c.requires.all)
           (omega arith) (omega arith) (p.ensures ∙ ap leaf c.leaf_of_words.ensures)),
     )
 
@@ -57,4 +51,4 @@ returns c =
     let s = c.loop-i in
     let some = leaf_count_some c.args.length in
     let all = c.requires.all in
-    record { kept = s.invariant.1; many = refl; wait = all_begun s.invariant.2 (omega arith) (omega arith) (omega (arith, c.requires.most)) }
+    record { kept = s.invariant.0; many = refl; wait = all_begun s.invariant.1 (omega arith) (omega arith) (omega (arith, c.requires.most)) }

@@ -1,5 +1,4 @@
--- What the loop keeps, and the measure that falls.
-use Prim.Native.Nat.{◌-◌, ◌≤◌}
+-- What the loop keeps.
 use mathlib.Core.Path.{◌≡◌}
 use lib.ListN.{length as count_of, take}
 use Rattle.model.specs.Word.{marks_of}
@@ -8,7 +7,4 @@ use Rattle.build.proofs.building.put_leaves.Given as goal
 
 abbrev pub invariant-loop-i : goal.invariant-loop-i
 invariant-loop-i l =
-    (l.i ≤ l.leaves) × (count_of l.nodes ≡ count_of l.initial.nodes) × Begun l.nodes (take l.length (marks_of l.words)) l.leaves l.i
-
-abbrev pub decreases-loop-i : goal.decreases-loop-i
-decreases-loop-i l = l.leaves - l.i
+    (count_of l.nodes ≡ count_of l.initial.nodes) × Begun l.nodes (take l.length (marks_of l.words)) l.leaves l.i

@@ -1,5 +1,4 @@
--- What the loop keeps, and the measure that falls.
-use Prim.Native.Nat.{◌+◌, ◌-◌, ◌*◌, ◌≤◌}
+-- What the loop keeps.
 use mathlib.Core.Path.{◌≡◌}
 use mathlib.Core.List.{List}
 use lib.ListN.{length}
@@ -10,8 +9,5 @@ use Rattle.build.proofs.building.round.Given as goal
 
 abbrev pub invariant-loop-i : goal.invariant-loop-i
 invariant-loop-i l =
-    (l.i * 2 + 2 ≤ l.row.count) × (length l.nodes ≡ length l.initial.nodes)
+    (length l.nodes ≡ length l.initial.nodes)
     × ((ts : List Tree) → Waiting l.initial.nodes l.next l.row ts → Parted l.nodes l.next l.row l.i ts)
-
-abbrev pub decreases-loop-i : goal.decreases-loop-i
-decreases-loop-i l = l.row.count - l.i

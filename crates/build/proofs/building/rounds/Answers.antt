@@ -1,19 +1,9 @@
 -- Each round leaves half the trees, and the rounds to come still make the same tree. Assumes nothing.
 use Prim.Native.Nat.{◌-◌, ◌*◌}
 use native.Mathlib.Omega.{arith}
-use mathlib.Core.Path.{◌≡◌, refl}
-use Rattle.build.proofs.Rounds.{first_round, last_round, round_over}
+use mathlib.Core.Path.{◌≡◌}
+use Rattle.build.proofs.Rounds.{last_round, round_over}
 use Rattle.build.proofs.building.rounds.Goals as goal
-
-pub loop-row-init : goal.loop-row-init
-loop-row-init c = (omega arith, omega arith, refl, λ ts p. first_round ts p)
-
-pub round-row-requires : goal.round-row-requires
-round-row-requires c =
-    let s = c.loop-row in
-    let p = c.requires.1 in
-    let t = s.invariant.3 p.these p.wait in
-    (omega arith, record { enough = omega arith; few = omega arith; these = t.trees; wait = t.waits })
 
 pub loop-row-preserved : goal.loop-row-preserved
 loop-row-preserved c =

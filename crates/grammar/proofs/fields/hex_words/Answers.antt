@@ -1,30 +1,18 @@
-use Rattle.std.proofs.Common.{arith}
-use Rattle.grammar.proofs.Asking.{nothing_is, value_is}
-use Rattle.grammar.proofs.Gathering.{gathered_none, gather_not, Next, next_last, next_more}
+use Rattle.grammar.proofs.Gathering.{gather_not, gather_one, gathered_all, gathered_none}
 use Rattle.grammar.proofs.fields.hex_words.Goals as goal
 
-pub loop-word-init : goal.loop-word-init
-loop-word-init c = gathered_none _ _
+pub loop-rest-init : goal.loop-rest-init
+loop-rest-init c = gathered_none _ _ c.requires
 
-pub returns-in_default : goal.returns-in_default
-returns-in_default c = gather_not c.loop-word.invariant c.find-end.ensures.place (nothing_is c.hex_word.ensures c.in_default.is)
+pub returns-in_err-word : goal.returns-in_err-word
+returns-in_err-word c =
+    rw c.from_residual.ensures
+    (gather_not (rw c.in-Some.is at c.loop-rest.invariant) c.first_field.result.1 c.first_field.ensures.fields c.in_err-word.ensures)
 
-pub returns-then-end-fields : goal.returns-then-end-fields
-returns-then-end-fields c =
-    let next : Next c.args.fields.now c.args.words.now c.loop-word.words c.loop-word.at c.loop-word.count c.find-end.result c.in-Value.word = record {
-      gathered = c.loop-word.invariant;
-      found = c.find-end.ensures.place;
-      word = value_is c.hex_word.ensures c.in-Value.is;
-      fits = c.requires;
-    } in
-    next_last next (omega arith)
+pub loop-rest-preserved : goal.loop-rest-preserved
+loop-rest-preserved c =
+    let cut = c.first_field.ensures in
+    gather_one (rw c.in-Some.is at c.loop-rest.invariant) c.first_field.result.1 cut.fields cut.lengths c.in_ok-word.ensures
 
-pub loop-word-preserved : goal.loop-word-preserved
-loop-word-preserved c =
-    let next : Next c.args.fields.now c.args.words.now c.loop-word.words c.loop-word.at c.loop-word.count c.find-end.result c.in-Value.word = record {
-      gathered = c.loop-word.invariant;
-      found = c.find-end.ensures.place;
-      word = value_is c.hex_word.ensures c.in-Value.is;
-      fits = c.requires;
-    } in
-    next_more next (omega arith)
+pub returns : goal.returns
+returns c = gathered_all {was = c.args.words.now} (rw c.in_default.is at c.loop-rest.invariant)

@@ -1,10 +1,9 @@
--- The words before this place stand in the row, and those from here on follow them.
-use Rattle.std.proofs.Common.{◌-◌, length}
-use Rattle.grammar.proofs.Gathering.{Gathered}
+-- The words read stand in the row, and those that are left follow them.
+use Rattle.grammar.proofs.Gathering.{Gathered, size_left}
 use Rattle.grammar.proofs.fields.hex_words.Given as goal
 
-abbrev pub invariant-loop-word : goal.invariant-loop-word
-invariant-loop-word l = Gathered l.fields l.fn.words l.words l.at l.count
+abbrev pub invariant-loop-rest : goal.invariant-loop-rest
+invariant-loop-rest l = Gathered l.fn.fields l.fn.words l.words l.rest l.count
 
-abbrev pub decreases-loop-word : goal.decreases-loop-word
-decreases-loop-word l = length l.fields - l.at
+abbrev pub decreases-loop-rest : goal.decreases-loop-rest
+decreases-loop-rest l = size_left l.rest

@@ -1,30 +1,26 @@
--- What stands before the first space, and what stands behind it, are read as decimals.
-use Rattle.std.proofs.Common.{arith, ◌∙◌}
-use mathlib.Core.Option.{bind}
-use Rattle.grammar.proofs.Asking.{Cut, nothing_is, two_alone, two_more, value_is}
+-- The first field and what stands behind it are read as decimals.
+use Rattle.std.proofs.Common.{◌∙◌}
+use Rattle.text.specs.Text.{fields_left}
+use Rattle.grammar.specs.Lines.{two_numbers}
+use Rattle.grammar.proofs.Asking.{two_alone, two_more}
 use Rattle.grammar.proofs.fields.two_decimals.Goals as goal
 
-pub returns-then-end-fields : goal.returns-then-end-fields
-returns-then-end-fields c =
-    let cut : Cut c.args.fields.now c.field_end-end.result = record { here = c.field_end-end.ensures.value } in
-    λ ask. two_alone cut ask (omega arith)
+pub returns-in_err-decimal : goal.returns-in_err-decimal
+unfolding two_numbers
+returns-in_err-decimal c = λ ask. rw (c.from_residual.ensures, c.first_field.ensures.fields, ← c.in_err-decimal.ensures)
 
-pub returns-in-Nothing : goal.returns-in-Nothing
-unfolding bind
-returns-in-Nothing c =
-    let cut : Cut c.args.fields.now c.field_end-end.result = record { here = c.field_end-end.ensures.value } in
-    λ ask. two_more cut ask (omega arith) ∙ rw (nothing_is c.decimal.ensures c.in-Nothing.is)
+pub returns-in_err-rest : goal.returns-in_err-rest
+unfolding fields_left
+returns-in_err-rest c =
+    λ ask. rw (c.from_residual-in_err-rest.ensures, c.first_field.ensures.fields, c.in_err-rest.was) (two_alone _ ask)
 
-pub returns-in-Nothing-decimal : goal.returns-in-Nothing-decimal
-unfolding bind
-returns-in-Nothing-decimal c =
-    let cut : Cut c.args.fields.now c.field_end-end.result = record { here = c.field_end-end.ensures.value } in
-    λ ask. two_more cut ask (omega arith)
-    ∙ rw (value_is c.decimal.ensures c.in-Value.is, nothing_is c.decimal-in-Value.ensures c.in-Nothing-decimal.is)
+pub returns-in_err-decimal-2 : goal.returns-in_err-decimal-2
+unfolding fields_left
+returns-in_err-decimal-2 c =
+    λ ask. rw (c.from_residual-in_err-decimal-2.ensures, c.first_field.ensures.fields, c.in_ok-rest.was)
+    (two_more _ _ ask ∙ rw (← c.in_ok-decimal.ensures, ← c.in_err-decimal-2.ensures))
 
-pub returns-in-Value-decimal : goal.returns-in-Value-decimal
-unfolding bind
-returns-in-Value-decimal c =
-    let cut : Cut c.args.fields.now c.field_end-end.result = record { here = c.field_end-end.ensures.value } in
-    λ ask. two_more cut ask (omega arith)
-    ∙ rw (value_is c.decimal.ensures c.in-Value.is, value_is c.decimal-in-Value.ensures c.in-Value-decimal.is)
+pub returns : goal.returns
+unfolding fields_left
+returns c =
+    λ ask. rw (c.first_field.ensures.fields, c.in_ok-rest.was) (two_more _ _ ask ∙ rw (← c.in_ok-decimal.ensures, ← c.in_ok-decimal-2.ensures))

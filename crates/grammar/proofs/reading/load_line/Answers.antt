@@ -1,28 +1,25 @@
--- What stands before the first space is the length, and what stands behind it the words.
-use Rattle.std.proofs.Common.{arith, ◌∙◌}
-use mathlib.Core.Option.{bind}
-use Rattle.grammar.proofs.Asking.{Cut, load_alone, load_more, load_none, nothing_is, value_is}
+-- The first field is the length, and those behind it are the words.
+use Rattle.std.proofs.Common.{arith}
+use Rattle.text.specs.Text.{fields_left}
+use Rattle.grammar.specs.Lines.{hex_words, load_of}
 use Rattle.grammar.proofs.reading.load_line.Goals as goal
 
-pub returns-in_default : goal.returns-in_default
-returns-in_default c =
-    let cut : Cut c.args.fields.now c.field_end-end.result = record { here = c.field_end-end.ensures.value } in
-    load_none cut (nothing_is c.decimal.ensures c.in_default.is)
+pub returns-in_err-length : goal.returns-in_err-length
+unfolding load_of
+returns-in_err-length c = rw (c.from_residual.ensures, c.first_field.ensures.fields, ← c.in_err-length.ensures)
 
-pub returns-then-end-fields : goal.returns-then-end-fields
-returns-then-end-fields c =
-    let cut : Cut c.args.fields.now c.field_end-end.result = record { here = c.field_end-end.ensures.value } in
-    (omega arith, load_alone cut (value_is c.decimal.ensures c.in-Value.is) (omega arith))
+pub returns-in_err-count-in-Some : goal.returns-in_err-count-in-Some
+unfolding load_of fields_left
+returns-in_err-count-in-Some c =
+    let read = c.in_err-count-in-Some.ensures in
+    rw (c.from_residual-in_err-count-in-Some.ensures, c.first_field.ensures.fields, c.in-Some.is, ← c.in_ok-length.ensures, read)
 
-pub returns-in-Value-hex_words : goal.returns-in-Value-hex_words
-unfolding bind
-returns-in-Value-hex_words c =
-    let cut : Cut c.args.fields.now c.field_end-end.result = record { here = c.field_end-end.ensures.value } in
-    let read = c.in-Value-hex_words.ensures in
-    (read.0, load_more cut (value_is c.decimal.ensures c.in-Value.is) (omega arith) ∙ rw read.1)
+pub returns-in_ok-count-in-Some : goal.returns-in_ok-count-in-Some
+unfolding load_of fields_left
+returns-in_ok-count-in-Some c =
+    let read = c.in_ok-count-in-Some.ensures in
+    (read.0, rw (c.first_field.ensures.fields, c.in-Some.is, ← c.in_ok-length.ensures, read.1))
 
-pub returns-in-Nothing : goal.returns-in-Nothing
-unfolding bind
-returns-in-Nothing c =
-    let cut : Cut c.args.fields.now c.field_end-end.result = record { here = c.field_end-end.ensures.value } in
-    load_more cut (value_is c.decimal.ensures c.in-Value.is) (omega arith) ∙ rw c.in-Nothing.ensures
+pub returns-in-None : goal.returns-in-None
+unfolding load_of fields_left hex_words
+returns-in-None c = (omega arith, rw (c.first_field.ensures.fields, c.in-None.is, ← c.in_ok-length.ensures))

@@ -1,17 +1,11 @@
--- What stands before the first space is the name.
-use Rattle.std.proofs.Common.{arith}
-use Rattle.grammar.specs.Lines.{Reads}
-use Rattle.grammar.proofs.Asking.{Cut, wanted_alone, wanted_more}
+-- The first field is the name.
+use Rattle.grammar.specs.Lines.{Reads, wanted, wanted_of}
 use Rattle.grammar.proofs.reading.read.Goals as goal
 
-pub returns-then-end-line : goal.returns-then-end-line
-unfolding Reads
-returns-then-end-line c =
-    let cut : Cut c.args.line.now c.field_end-end.result = record { here = c.field_end-end.ensures.value } in
-    rw (wanted_alone cut (omega arith), ← c.name_of-name.ensures) (c.bare.ensures _)
+pub returns-in_err-name_of : goal.returns-in_err-name_of
+unfolding Reads wanted wanted_of
+returns-in_err-name_of c = rw (c.from_residual.ensures, c.first_field.ensures.fields, ← c.in_err-name_of.ensures)
 
 pub returns : goal.returns
-unfolding Reads
-returns c =
-    let cut : Cut c.args.line.now c.field_end-end.result = record { here = c.field_end-end.ensures.value } in
-    rw (wanted_more cut (omega arith), ← c.name_of-name.ensures) c.with_fields.ensures
+unfolding Reads wanted wanted_of
+returns c = rw (c.first_field.ensures.fields, ← c.in_ok-name_of.ensures) c.asked.ensures

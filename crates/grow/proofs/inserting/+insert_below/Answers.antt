@@ -18,8 +18,8 @@ use Rattle.grow.proofs.inserting.+insert_below.Goals as goal
 pub leaf_or_fork-requires : goal.leaf_or_fork-requires
 leaf_or_fork-requires t c = let b = c.requires in rooted_node b.at.tree b.at.site.rooted
 
-pub overflow_add-length : goal.overflow_add-length
-overflow_add-length t c =
+pub overflow_add-root : goal.overflow_add-root
+overflow_add-root t c =
     let b = c.requires in
     let few = b.at.site.few in
     omega (arith, b.at.total_is)
@@ -40,9 +40,6 @@ overflow_add-total t c =
 pub overflow_add-ones : goal.overflow_add-ones
 overflow_add-ones t c =
     byte_fits _ (c.toward-step.result.left && c.args.bit) (left_fits c.requires (sym c.leaf_or_fork.ensures ∙ ap as_node c.in-Fork.is)).1
-
-pub set_left-requires : goal.set_left-requires
-set_left-requires t c = (_, (sym c.leaf_or_fork.ensures ∙ ap as_node c.in-Fork.is))
 
 pub overflow_sub-levels : goal.overflow_sub-levels
 overflow_sub-levels t c = fork_level c.requires.at.site.rooted (sym c.leaf_or_fork.ensures ∙ ap as_node c.in-Fork.is)

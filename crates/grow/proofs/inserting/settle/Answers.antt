@@ -6,10 +6,7 @@ use Rattle.grow.proofs.inserting.settle.Goals as goal
 pub returns-then-size-lt-LEAF_SPLIT : goal.returns-then-size-lt-LEAF_SPLIT
 returns-then-size-lt-LEAF_SPLIT c = λ b.
     let small = c.if-size-lt-LEAF_SPLIT.true in
-    settled b (omega arith) c.set_leaf.ensures
-
-pub split-requires : goal.split-requires
-split-requires c = full_now c.requires c.if-size-lt-LEAF_SPLIT.false
+    settled b (omega arith) c.set_node.ensures
 
 pub returns : goal.returns
 returns c = λ b.

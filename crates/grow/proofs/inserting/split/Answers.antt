@@ -11,6 +11,6 @@ next_free-requires c = split_next c.requires c.next_free-second.ensures
 
 pub returns : goal.returns
 returns c = λ b.
-    split_done b c.next_free-second.ensures c.next_free.ensures c.split-halves.ensures
-    c.set_leaf.ensures c.set_leaf-2.ensures refl refl refl
-    c.count_before.ensures c.stored.ensures c.set_fork.ensures
+    split_done b c.next_free-second.ensures c.next_free.ensures c.split.ensures
+    c.set_node.ensures c.set_node-2.ensures refl refl refl
+    c.count_before.ensures c.stored.ensures c.set_node-3.ensures

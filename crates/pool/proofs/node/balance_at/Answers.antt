@@ -5,10 +5,10 @@ use Rattle.pool.specs.declared.node.Cell.{Cell}
 use Rattle.pool.proofs.Cells.{a_balance, tree_node_cell, tree_node_in}
 use Rattle.pool.proofs.node.balance_at.Goals as goal
 
-pub cell_at-cell-requires : goal.cell_at-cell-requires
-cell_at-cell-requires c = tree_node_in c.args.nodes.now c.args.n c.requires
+pub cell_at-requires : goal.cell_at-requires
+cell_at-requires c = tree_node_in c.args.nodes.now c.args.n c.requires
 
 pub returns : goal.returns
 returns c =
     let w = c.args.nodes.now in
-    ap (λ (x : Cell). x.sixth) (c.cell_at-cell.ensures ∙ tree_node_cell w c.args.n c.requires) ∙ a_balance (node_at w c.args.n) c.requires
+    ap (λ (x : Cell). x.sixth) (c.cell_at.ensures ∙ tree_node_cell w c.args.n c.requires) ∙ a_balance (node_at w c.args.n) c.requires

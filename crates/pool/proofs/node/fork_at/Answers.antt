@@ -10,5 +10,5 @@ cell_at-requires c = let p = c.requires in (fork_says c.args.nodes.now c.args.n 
 pub returns : goal.returns
 returns c =
     let p = c.requires in
-    c.fork_in.ensures ∙ ap fork_words (c.cell_at.ensures ∙ (fork_says c.args.nodes.now c.args.n p.0 p.1).1)
+    c.into.ensures ∙ ap fork_words (c.cell_at.ensures ∙ (fork_says c.args.nodes.now c.args.n p.0 p.1).1)
     ∙ ap fork_in (sym p.1)

@@ -10,5 +10,5 @@ cell_at-requires c = let p = c.requires in (leaf_says c.args.nodes.now c.args.n 
 pub returns : goal.returns
 returns c =
     let p = c.requires in
-    c.leaf_in.ensures ∙ ap leaf_words (c.cell_at.ensures ∙ (leaf_says c.args.nodes.now c.args.n p.0 p.1).1)
+    c.into.ensures ∙ ap leaf_words (c.cell_at.ensures ∙ (leaf_says c.args.nodes.now c.args.n p.0 p.1).1)
     ∙ ap leaf_in (sym p.1)

@@ -7,7 +7,7 @@ use Rattle.pool.proofs.node.node_at.Goals as goal
 
 pub returns-then-n-node_count : goal.returns-then-n-node_count
 returns-then-n-node_count c =
-    c.node_of.ensures ∙ ap node_of c.cell_at.ensures ∙ sym (node_in c.args.nodes.now c.args.n (omega arith))
+    c.into.ensures ∙ ap node_of c.cell_at.ensures ∙ sym (node_in c.args.nodes.now c.args.n (omega arith))
 
 pub returns : goal.returns
 returns c =

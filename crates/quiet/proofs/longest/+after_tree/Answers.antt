@@ -16,18 +16,19 @@ after_leaf-requires t c =
 pub overflow_sub-below : goal.overflow_sub-below
 overflow_sub-below t c = (stands_fork c.requires.0 c.leaf_or_fork.ensures c.in-Fork.is).level
 
+pub children-requires : goal.children-requires
+children-requires t c = (stands_fork c.requires.0 c.leaf_or_fork.ensures c.in-Fork.is).within
+
 pub after_tree-first-requires : goal.after_tree-first-requires
 after_tree-first-requires t c =
     let q = stands_fork c.requires.0 c.leaf_or_fork.ensures c.in-Fork.is in
-    (omega (arith, c.decreases, q.level), (q.left, omega (arith, c.requires.1, q.within)))
-
-pub overflow_sub-length : goal.overflow_sub-length
-overflow_sub-length t c = (stands_fork c.requires.0 c.leaf_or_fork.ensures c.in-Fork.is).within
+    rw c.children.ensures (omega (arith, c.decreases, q.level), (q.left, omega (arith, c.requires.1, q.within)))
 
 pub after_tree-requires : goal.after_tree-requires
 after_tree-requires t c =
     let q = stands_fork c.requires.0 c.leaf_or_fork.ensures c.in-Fork.is in
-    (omega (arith, c.decreases, q.level), (q.right, omega (arith, c.requires.1, (left_since q _ (c.after_tree-first.ensures q.left)), q.within)))
+    let first = c.after_tree-first.ensures (rw c.children.ensures q.left) in
+    rw c.children.ensures (omega (arith, c.decreases, q.level), (q.right, omega (arith, c.requires.1, left_since q _ first, q.within)))
 
 pub returns-in-Leaf : goal.returns-in-Leaf
 returns-in-Leaf t c = λ s.
@@ -37,4 +38,4 @@ pub returns-in-Fork : goal.returns-in-Fork
 returns-in-Fork t c =
     λ s.
     let q = stands_fork s c.leaf_or_fork.ensures c.in-Fork.is in
-    fork_visited q _ (c.after_tree-first.ensures q.left) (c.after_tree.ensures q.right)
+    fork_visited q _ (c.after_tree-first.ensures (rw c.children.ensures q.left)) (c.after_tree.ensures (rw c.children.ensures q.right))

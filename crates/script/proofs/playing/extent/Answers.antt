@@ -1,18 +1,13 @@
--- The words of a pool, by the two tests. Assumes nothing.
+-- A pool has from 1 node to 1,023.
 use native.Mathlib.Omega.{arith}
-use mathlib.Core.Path.{sym}
-use Rattle.script.proofs.Effects.{bounds_sized, extent_none, extent_sized, unsized}
+use Rattle.script.proofs.Effects.{bounds_sized, extent_some, extent_not, unsized}
 use Rattle.script.proofs.playing.extent.Goals as goal
 
-pub returns-then-nodes-eq0 : goal.returns-then-nodes-eq0
-returns-then-nodes-eq0 c = sym (extent_none _ (unsized _ (λ b. omega (arith, c.if-nodes-eq0.true))))
+pub returns-in-1-to-1023 : goal.returns-in-1-to-1023
+returns-in-1-to-1023 c = extent_some c.args.nodes (bounds_sized c.args.nodes (omega arith) (omega arith)) (omega arith)
 
-pub returns-then-nodes-gt-MOST_NODES : goal.returns-then-nodes-gt-MOST_NODES
-returns-then-nodes-gt-MOST_NODES c = sym (extent_none _ (unsized _ (λ b. omega (arith, c.if-nodes-gt-MOST_NODES.true))))
+pub returns-in_default : goal.returns-in_default
+returns-in_default c = extent_not c.args.nodes (unsized _ (λ b. omega arith))
 
-pub returns : goal.returns
-returns c = omega (
-  arith,
-  extent_sized _ (bounds_sized c.args.nodes (omega (arith, c.if-nodes-eq0.false))
-      (omega (arith, c.if-nodes-gt-MOST_NODES.false))),
-)
+pub returns-in_default-2 : goal.returns-in_default-2
+returns-in_default-2 c = extent_not c.args.nodes (unsized _ (λ b. omega arith))

@@ -1,34 +1,27 @@
--- The window builds, and its answer is told. Assumes nothing.
-use native.Mathlib.Omega.{arith}
+-- The window builds, and its answer is told.
 use mathlib.Core.List.{[], ◌++◌}
-use mathlib.Core.Path.{sym}
 use lib.ListN.{drop, take}
-use lib.Seq.{length-take-le}
 use Rattle.grammar.specs.Lines.{loading}
 use Rattle.script.specs.Playing.{extent_of}
-use Rattle.script.proofs.Effects.{extent_most, load_did}
-use Rattle.script.proofs.Outcomes.{load_shows, played}
+use Rattle.script.proofs.Effects.{in_use, load_did}
+use Rattle.script.proofs.Outcomes.{load_shows, played, told}
 use Rattle.script.proofs.playing.load.Goals as goal
 
 pub slice_bounds-build-end : goal.slice_bounds-build-end
-slice_bounds-build-end c =
-    omega (arith, c.extent-end.ensures, extent_most c.args.nodes, c.requires.0)
+slice_bounds-build-end c = (in_use c.args.nodes c.args.pool.now c.extent.ensures c.unwrap_or-end.ensures c.told-pool).within
 
 pub slice_bounds-build-end-2 : goal.slice_bounds-build-end-2
-slice_bounds-build-end-2 c =
-    sym (length-take-le c.extent-end.result c.args.pool.now (omega (arith, c.extent-end.ensures, extent_most c.args.nodes, c.requires.0)))
-
-pub slice_bounds-build-end-3 : goal.slice_bounds-build-end-3
-slice_bounds-build-end-3 c =
-    sym (length-take-le c.args.load.count c.args.words.now c.requires.1)
+slice_bounds-build-end-2 c = (in_use c.args.nodes c.args.pool.now c.extent.ensures c.unwrap_or-end.ensures c.told-pool).as_long
 
 pub returns : goal.returns
 returns c = λ s h.
     let a = c.args in
-    rw c.extent-end.ensures
-    (played (loading a.load.length (take a.load.count a.words.now)) s a.pool.now a.nodes a.out.now c.build.result []
+    let used = (in_use a.nodes a.pool.now c.extent.ensures c.unwrap_or-end.ensures c.told-pool).is in
+    let line = told c.build-built.result [] a.out.now _ c.from.ensures c.tell.ensures.end c.tell.ensures.written in
+    rw used
+    (played (loading a.load.length (take a.load.count a.words.now)) s a.pool.now a.nodes a.out.now c.build-built.result []
     a.nodes c.tell.result
-    (c.build.new.pool ++ drop (extent_of a.nodes) a.pool.now) c.tell.new.out
-    (load_did s a.pool.now a.nodes a.load.length (take a.load.count a.words.now) c.build.result c.build.new.pool
-    c.requires.0 h (rw c.extent-end.ensures at c.build.ensures))
-    (load_shows a.load.length (take a.load.count a.words.now) s) (c.tell.ensures.value, c.tell.ensures.out_after))
+    (c.build-built.new.pool ++ drop (extent_of a.nodes) a.pool.now) c.tell.new.out
+    (load_did s a.pool.now a.nodes a.load.length (take a.load.count a.words.now) c.build-built.result c.build-built.new.pool
+    c.told-pool h (rw used at c.build-built.ensures))
+    (load_shows a.load.length (take a.load.count a.words.now) s) line)

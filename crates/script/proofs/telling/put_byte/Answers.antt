@@ -1,7 +1,7 @@
--- A store is a text of one byte. Assumes nothing.
-use mathlib.Core.Path.{refl, sym}
+-- A store is a text of one byte.
+use mathlib.Core.Path.{sym}
 use Rattle.text.proofs.Putting.{over_one}
 use Rattle.script.proofs.telling.put_byte.Goals as goal
 
-pub returns : goal.returns
-returns c = record { value = refl; out_after = sym (over_one _ _ _ c.requires) }
+pub returns-clause-written : goal.returns-clause-written
+returns-clause-written c = sym (over_one _ _ _ c.requires)

@@ -2,7 +2,7 @@
 use mathlib.Core.Path.{◌≡◌}
 use Prim.Native.Nat.{ℕ, ◌+◌, ◌-◌, ◌*◌, ◌/◌, ◌^◌, ◌≤◌, ◌<◌}
 use native.Mathlib.Omega.{arith}
-use lib.Bits.{bit_and, and_le_l, and_le_r}
+use lib.Bits.{bit_and, and_le_r}
 use Rattle.select.specs.Fields.{field_counts}
 use Rattle.select.specs.Select.{sums_of}
 use Rattle.select.proofs.Fields.{repeated, twice, pairs_counted, halves_counted, bytes_counted}
@@ -28,18 +28,8 @@ bytes-are : (w : ℕ) → bit_and (field_counts 4 16 w + field_counts 4 16 w / 1
 unfolding repeated twice
 bytes-are w = bytes_counted 8 w
 
-pub overflow_sub-pairs : goal.overflow_sub-pairs
-overflow_sub-pairs c = omega (arith, and_le_l c.args.value 0xaaaa_aaaa_aaaa_aaaa)
-
--- a mask bounds what it lets through
 halves_small : (x : ℕ) → halves-sum x ≤ 2 * 0x3333_3333_3333_3333
 halves_small x = omega (arith, and_le_r x 0x3333_3333_3333_3333, and_le_r (x / 4) 0x3333_3333_3333_3333)
-
-pub overflow_add-halves : goal.overflow_add-halves
-overflow_add-halves c = omega (arith, halves_small (pairs-sum c.args.value))
-
-pub overflow_add-bytes : goal.overflow_add-bytes
-overflow_add-bytes c = omega (arith, halves_small (pairs-sum c.args.value))
 
 pub returns : goal.returns
 unfolding sums_of

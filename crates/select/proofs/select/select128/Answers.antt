@@ -1,48 +1,34 @@
 -- The first word is searched where it has k of the wanted bits, else the second for those that it lacks. Assumes nothing.
-use Prim.Native.Nat.{ℕ, ◌<◌}
 use native.Mathlib.Omega.{arith}
-use mathlib.Core.Path.{◌≡◌, sym, ap, ◌∙◌}
-use mathlib.Core.List.{◌++◌}
-use Rattle.model.specs.Marks.{count, select}
+use mathlib.Core.Path.{sym, ◌∙◌}
+use Rattle.model.specs.Marks.{further}
 use Rattle.model.specs.Word.{bits}
+use Rattle.model.proofs.Counting.{select_below}
 use Rattle.model.proofs.Words.{bits_length}
-use Rattle.select.specs.Select.{placed}
-use Rattle.select.specs.declared.select.Place.TheVariants.{At}
-use Rattle.select.proofs.Widths.{beyond, count_is, in_low, in_high, placed_below}
+use Rattle.select.proofs.Widths.{in_low, in_high}
 use Rattle.select.proofs.select.select128.Goals as goal
 
 pub returns-then-k-in_low : goal.returns-then-k-in_low
 returns-then-k-in_low c =
-    let in-first : c.ones64-in_low.result ≡ count c.args.bit (bits 64 c.args.low) =
-    c.ones64-in_low.ensures ∙ count_is 64 c.args.bit c.args.low c.ranges.low.fits c.chosen64.ensures in
-    let n = in-first in
     let s = c.args in
-    in_low s.bit s.k (bits 64 s.low) (bits 64 s.high) _ (omega arith) c.select64.ensures
+    c.select_word.ensures ∙ in_low 64 s.bit s.k s.low s.high c.ones-in_low.ensures c.chosen.ensures.same c.ranges.low.fits c.if-k-in_low.true
+
+pub returns-in_err-pos : goal.returns-in_err-pos
+unfolding further
+returns-in_err-pos c =
+    let s = c.args in
+    let high = sym c.select_word-2.ensures ∙ c.in_err-pos.was in
+    let first = c.ones-in_low.ensures in
+    c.from_residual.ensures ∙ in_high 64 s.bit s.k s.low s.high first c.chosen.ensures.same c.ranges.low.fits c.if-k-in_low.false high
 
 pub overflow_add-result : goal.overflow_add-result
 overflow_add-result c =
-    let below : (p : ℕ) → c.select64-2.result ≡ At p → p < 64 =
-    λ p e. rw (bits_length 64 c.args.high) at (placed_below _ _ _ p (sym e ∙ c.select64-2.ensures)) in
-    omega (arith, below _ c.in-At.is)
+    let below = select_below c.args.bit _ (bits 64 c.args.high) _ (sym c.select_word-2.ensures ∙ c.in_ok-pos.was) in
+    omega (arith, below, bits_length 64 c.args.high)
 
-pub returns-in-At : goal.returns-in-At
-returns-in-At c =
-    let in-first : c.ones64-in_low.result ≡ count c.args.bit (bits 64 c.args.low) =
-    c.ones64-in_low.ensures ∙ count_is 64 c.args.bit c.args.low c.ranges.low.fits c.chosen64.ensures in
-    let in-second :
-    beyond 64 c.select64-2.result ≡ placed (select c.args.bit c.args.k (bits 64 c.args.low ++ bits 64 c.args.high)) = let n = in-first in
+pub returns : goal.returns
+unfolding further
+returns c =
     let s = c.args in
-    ap (λ (x : ℕ). beyond x c.select64-2.result) (sym (bits_length 64 s.low))
-    ∙ in_high s.bit s.k (bits 64 s.low) (bits 64 s.high) _ (omega arith) (rw n at c.select64-2.ensures) in
-    ap (beyond 64) (sym c.in-At.is) ∙ in-second
-
-pub returns-in-Nothing : goal.returns-in-Nothing
-returns-in-Nothing c =
-    let in-first : c.ones64-in_low.result ≡ count c.args.bit (bits 64 c.args.low) =
-    c.ones64-in_low.ensures ∙ count_is 64 c.args.bit c.args.low c.ranges.low.fits c.chosen64.ensures in
-    let in-second :
-    beyond 64 c.select64-2.result ≡ placed (select c.args.bit c.args.k (bits 64 c.args.low ++ bits 64 c.args.high)) = let n = in-first in
-    let s = c.args in
-    ap (λ (x : ℕ). beyond x c.select64-2.result) (sym (bits_length 64 s.low))
-    ∙ in_high s.bit s.k (bits 64 s.low) (bits 64 s.high) _ (omega arith) (rw n at c.select64-2.ensures) in
-    ap (beyond 64) (sym c.in-Nothing.is) ∙ in-second
+    let high = sym c.select_word-2.ensures ∙ c.in_ok-pos.was in
+    in_high 64 s.bit s.k s.low s.high c.ones-in_low.ensures c.chosen.ensures.same c.ranges.low.fits c.if-k-in_low.false high

@@ -3,11 +3,8 @@ use native.Mathlib.Omega.{arith}
 use Rattle.serve.proofs.Orderly.{access_done, access_out}
 use Rattle.serve.proofs.serving.access_at.Goals as goal
 
-pub returns-then-held-index : goal.returns-then-held-index
-returns-then-held-index c = λ t g. access_out _ t (omega (arith, g.total, c.if-held-index.true))
-
-pub access-requires : goal.access-requires
-access-requires c = let g = c.requires in (g.0, g.1.rooted, g.1.total, c.if-held-index.false)
+pub returns-then-tree-index : goal.returns-then-tree-index
+returns-then-tree-index c = λ s. access_out _ s.tree (omega (arith, s.total, c.if-tree-index.true))
 
 pub returns : goal.returns
-returns c = λ t g. access_done _ t _ (omega (arith, g.total, c.if-held-index.false)) (c.access.ensures t g.rooted g.total)
+returns c = λ s. access_done _ s.tree _ (omega (arith, s.total, c.if-tree-index.false)) (c.access.ensures s)

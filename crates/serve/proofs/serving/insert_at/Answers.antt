@@ -16,38 +16,33 @@ returns-then-held-index c = λ end p s.
     let out = insert_out a.may a.index a.bit p (omega (arith, s.total, c.if-held-index.true)) in
     still s _ _ _ c.unmoved.ensures out.0 out.1
 
-pub room-requires : goal.room-requires
-room-requires c =
-    let within : let a = c.args in a.index ≤ a.held.length = omega (arith, c.if-held-index.false) in
-    let s = c.requires in to_ask s.2 _ within
-
-pub insert-after-requires : goal.insert-after-requires
-insert-after-requires c =
-    let within : let a = c.args in a.index ≤ a.held.length = omega (arith, c.if-held-index.false) in
+pub insert-chain-requires : goal.insert-chain-requires
+insert-chain-requires c =
+    let within : let a = c.args in a.index ≤ a.held.tree.length = omega (arith, c.if-held-index.false) in
     let roomy : (end : ℕ) (p : Pool) → let a = c.args in
     ToServe a.nodes.now end a.held a.may p
     → full a.may a.index p ≡ false = λ end p s. not-true _ (sym (c.room.ensures (to_ask s _ within)) ∙ c.if-room.true) in
     let s = c.requires in
     to_insert s.2 _ within (roomy s.0 s.1 s.2)
 
-pub overflow_add-result : goal.overflow_add-result
-overflow_add-result c = let s = c.requires in
+pub overflow_add-tree : goal.overflow_add-tree
+overflow_add-tree c = let s = c.requires in
     omega (arith, s.2.total, s.2.site.few)
 
 pub returns-then-room : goal.returns-then-room
 returns-then-room c =
-    let within : let a = c.args in a.index ≤ a.held.length = omega (arith, c.if-held-index.false) in
+    let within : let a = c.args in a.index ≤ a.held.tree.length = omega (arith, c.if-held-index.false) in
     let roomy : (end : ℕ) (p : Pool) → let a = c.args in
     ToServe a.nodes.now end a.held a.may p
     → full a.may a.index p ≡ false = λ end p s. not-true _ (sym (c.room.ensures (to_ask s _ within)) ∙ c.if-room.true) in
     λ end p s.
     let inside = within in
     let room = roomy end p s in
-    inserted s _ _ _ inside room (c.insert-after.ensures (to_insert s _ inside room))
+    inserted s _ _ _ inside room (c.insert-chain.ensures (to_insert s _ inside room))
 
 pub returns : goal.returns
 returns c =
-    let within : let a = c.args in a.index ≤ a.held.length = omega (arith, c.if-held-index.false) in
+    let within : let a = c.args in a.index ≤ a.held.tree.length = omega (arith, c.if-held-index.false) in
     let none_left : (end : ℕ) (p : Pool) → let a = c.args in
     ToServe a.nodes.now end a.held a.may p
     → full a.may a.index p ≡ true = λ end p s. not-false _ (sym (c.room.ensures (to_ask s _ within)) ∙ c.if-room.false) in

@@ -14,9 +14,6 @@ more e h = omega arith
 
 -- ---- needs
 
-pub fork_at-fork-requires : goal.fork_at-fork-requires
-fork_at-fork-requires c = let b = c.requires in (b.f, b.short.says)
-
 pub next_size-requires : goal.next_size-requires
 next_size-requires c = let b = c.requires in to_measure b (fork_read b c.fork_at-fork.ensures)
 

@@ -31,14 +31,18 @@ leaf_at-leaf-requires-2 c = short_read_leaf (rw c.if-left.false at c.requires).s
 pub put_after-requires : goal.put_after-requires
 put_after-requires c =
     let b = rw c.if-left.false at c.requires in
-    (b.short.over.l, marks b.short.over.r, merge_right_asks b c.leaf_at-leaf-2.ensures)
+    (b.short.over.l, marks b.short.over.r, rw c.left_tree.ensures (merge_right_asks b c.leaf_at-leaf-2.ensures))
 
 pub move_node-requires-2 : goal.move_node-requires-2
 move_node-requires-2 c =
     let b = rw c.if-left.false at c.requires in
-    merge_moves b (c.put_after.ensures b.short.over.l (marks b.short.over.r) (merge_right_asks b c.leaf_at-leaf-2.ensures))
+    let asks = merge_right_asks b c.leaf_at-leaf-2.ensures in
+    merge_moves b (c.put_after.ensures b.short.over.l (marks b.short.over.r) (rw c.left_tree.ensures asks))
 
 pub returns : goal.returns
 returns c =
     rw c.if-left.false
-    (λ b. merge_done b (c.put_after.ensures _ _ (merge_right_asks b c.leaf_at-leaf-2.ensures)) c.move_node-2.ensures)
+    (λ b.
+    merge_done b
+    (c.put_after.ensures _ _ (rw c.left_tree.ensures (merge_right_asks b c.leaf_at-leaf-2.ensures)))
+    c.move_node-2.ensures)

@@ -38,8 +38,8 @@ uncount-requires t c =
     let b = c.requires in
     to_uncount step b (gone_held _ (record { sfits = c.remove_below-change.type_inv }) (c.remove_below-change.ensures (to_child step b)))
 
-pub overflow_sub-length : goal.overflow_sub-length
-overflow_sub-length t c =
+pub overflow_sub-root : goal.overflow_sub-root
+overflow_sub-root t c =
     let b = c.requires in
     omega (arith, b.within)
 
@@ -80,7 +80,7 @@ child_changed-requires t c =
 pub returns-in-Leaf : goal.returns-in-Leaf
 returns-in-Leaf t c = λ b.
     removed_at_leaf b (sym c.leaf_or_fork.ensures ∙ ap as_node c.in-Leaf.is)
-    c.remove.ensures c.set_leaf.ensures c.bit_at.ensures
+    c.remove.ensures c.set_node.ensures c.bit_at.ensures
 
 pub returns-else-change-eq0 : goal.returns-else-change-eq0
 returns-else-change-eq0 t c =

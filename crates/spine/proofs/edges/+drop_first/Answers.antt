@@ -24,7 +24,7 @@ less_left-requires t c =
     let p = c.requires in first_counts p.0 p.1 (sym c.in-Fork.ensures) c.drop_first-bit.ensures
 
 pub returns-in-Leaf : goal.returns-in-Leaf
-returns-in-Leaf t c = λ u q. first_at_leaf u q (sym c.in-Leaf.ensures) c.remove.ensures c.set_leaf.ensures c.bit_at.ensures
+returns-in-Leaf t c = λ u q. first_at_leaf u q (sym c.in-Leaf.ensures) c.remove.ensures c.set_node.ensures c.bit_at.ensures
 
 pub returns-in-Fork : goal.returns-in-Fork
 unfolding digit

@@ -1,25 +1,26 @@
 -- A leaf's size is the tree's; a fork's first leaf is its left child's. Assumes nothing.
 use native.Mathlib.Omega.{arith}
-use mathlib.Core.Bool.{true}
 use mathlib.Core.Path.{sym}
-use Rattle.pool.proofs.Standing.{rooted_node}
-use Rattle.spine.proofs.Along.{level, first_of_leaf, first_of_fork, size_below}
+use Rattle.tree.proofs.Down.{stands_node, stands_fork}
+use Rattle.spine.proofs.Along.{first_of_leaf, first_of_fork}
 use Rattle.spine.proofs.edges.+first_leaf_size.Goals as goal
 
 pub leaf_or_fork-requires : goal.leaf_or_fork-requires
-leaf_or_fork-requires t c = let p = c.requires in rooted_node p.0 p.1
+leaf_or_fork-requires t c = stands_node c.requires
+
+pub children-requires : goal.children-requires
+children-requires t c = (stands_fork c.requires c.leaf_or_fork.ensures c.in-Fork.is).within
 
 pub overflow_sub-levels : goal.overflow_sub-levels
-overflow_sub-levels t c = let p = c.requires in level p.0 p.1 (sym c.in-Fork.ensures)
+overflow_sub-levels t c = (stands_fork c.requires c.leaf_or_fork.ensures c.in-Fork.is).level
 
 pub first_leaf_size-requires : goal.first_leaf_size-requires
 first_leaf_size-requires t c =
-    let p = c.requires in
-    let read = sym c.in-Fork.ensures in
-    (omega (arith, level p.0 p.1 read), size_below p.0 (p.1, p.2) read true)
+    let q = stands_fork c.requires c.leaf_or_fork.ensures c.in-Fork.is in
+    rw c.children.ensures (omega (arith, q.level), q.left)
 
 pub returns-in-Leaf : goal.returns-in-Leaf
-returns-in-Leaf t c = λ u h e. first_of_leaf u (h, e) (sym c.in-Leaf.ensures)
+returns-in-Leaf t c = λ s. first_of_leaf s (sym c.in-Leaf.ensures)
 
 pub returns-in-Fork : goal.returns-in-Fork
-returns-in-Fork t c = λ u h e. first_of_fork u (h, e) (sym c.in-Fork.ensures) c.first_leaf_size.ensures
+returns-in-Fork t c = λ s. first_of_fork s (sym c.in-Fork.ensures) (rw c.children.ensures at c.first_leaf_size.ensures)

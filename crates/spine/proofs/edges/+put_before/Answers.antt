@@ -26,8 +26,8 @@ pub overflow_add-fork-in-Fork : goal.overflow_add-fork-in-Fork
 overflow_add-fork-in-Fork t c = let p = c.requires in omega (arith, (before_fits p.0 p.1 p.2 (sym c.in-Fork.ensures) p.3).1)
 
 pub returns-in-Leaf : goal.returns-in-Leaf
-returns-in-Leaf t c = λ u ys q. before_at_leaf u ys q (sym c.in-Leaf.ensures) c.join.ensures c.set_leaf.ensures
+returns-in-Leaf t c = λ u ys q. before_at_leaf u ys q (sym c.in-Leaf.ensures) c.join.ensures c.set_node.ensures
 
 pub returns-in-Fork : goal.returns-in-Fork
 returns-in-Fork t c = λ u ys q.
-    before_at_fork u ys q (sym c.in-Fork.ensures) c.put_before.ensures c.with_left-counted.ensures c.set_fork.ensures
+    before_at_fork u ys q (sym c.in-Fork.ensures) c.put_before.ensures c.with_left-counted.ensures c.set_node-in-Fork.ensures

@@ -1,15 +1,11 @@
-use Rattle.std.proofs.Common.{arith}
-use Rattle.text.proofs.Stepwise.{sought_none, sought_few, sought_more, sought_all}
+use Rattle.std.proofs.Common.{arith, sym}
+use Rattle.text.proofs.Digits.{fitting_is, fitting_here}
 use Rattle.text.proofs.numbers.places.Goals as goal
 
-pub loop-rest-init : goal.loop-rest-init
-loop-rest-init c = sought_none _
+pub returns-in-Some : goal.returns-in-Some
+returns-in-Some c =
+    let e = c.in-Some.ensures in
+    omega (arith, fitting_is c.in-Some.power c.args.number e.bound e.power_le e.next_power_gt)
 
-pub overflow_add-count : goal.overflow_add-count
-overflow_add-count c = omega (arith, sought_few c.loop-rest.invariant (omega arith) c.ranges.number.fits)
-
-pub loop-rest-preserved : goal.loop-rest-preserved
-loop-rest-preserved c = sought_more c.loop-rest.invariant (omega arith) c.ranges.number.fits
-
-pub returns : goal.returns
-returns c = sought_all c.loop-rest.invariant (omega arith)
+pub returns-in-None : goal.returns-in-None
+returns-in-None c = sym (fitting_here 19 1 c.args.number (omega (arith, c.in-None.ensures.none)))

@@ -4,6 +4,3 @@ use Rattle.text.proofs.numbers.put_digits.Given as goal
 
 abbrev pub invariant-loop-i : goal.invariant-loop-i
 invariant-loop-i l = ToPut l.fn.base l.fn.at l.fn.count l.fn.number l.fn.out l.out l.i l.rest
-
-abbrev pub decreases-loop-i : goal.decreases-loop-i
-decreases-loop-i l = l.i

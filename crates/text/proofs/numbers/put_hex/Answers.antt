@@ -1,6 +1,6 @@
 use Rattle.text.specs.Text.{hex_text}
 use Rattle.text.proofs.numbers.put_hex.Goals as goal
 
-pub returns-clause-out_after : goal.returns-clause-out_after
+pub returns-clause-written : goal.returns-clause-written
 unfolding hex_text
-returns-clause-out_after c = c.put_digits.ensures
+returns-clause-written c = c.put_digits.ensures

@@ -10,14 +10,14 @@ use mir.Syntax.{w64}
 use mir.Val.{SFits}
 use Rattle.model.specs.Tree.{Tree, height}
 use Rattle.model.specs.Turn as Turn
-use Rattle.pool.specs.Node.{fork_in, node_at}
+use Rattle.pool.specs.Node.{fork_cell, fork_in, node_at, put}
 use Rattle.pool.specs.declared.node.Fork.{Fork}
 use Rattle.turn.specs.Apart.{Apart}
 use Rattle.model.specs.Side.{side}
-use Rattle.turn.specs.Sites.{Stale, Stores}
-use Rattle.turn.specs.Words.{Evened}
+use Rattle.turn.specs.Sites.{Stale, Stores, with_balance}
+use Rattle.turn.specs.Words.{Evened, Uneven}
 use Rattle.turn.proofs.Changing.{evened_near, higher_side, leveled, put_right, set_right, stale_stores, uneven}
-use Rattle.turn.proofs.Differences.{same, none, within, sum, minus, fits, kept, read, held}
+use Rattle.turn.proofs.Differences.{same, none, sum, minus, fits, kept, read, held}
 use Rattle.turn.proofs.Read.{fork_height}
 use Rattle.turn.proofs.changed.child_changed.Goals as goal
 
@@ -88,82 +88,63 @@ module _ {w : List ℕ} {n : ℕ} {left : Bool} {was : ℕ} {l r : Tree} (stale 
 held_small : {z : ℤ} {x y : ℕ} → Small z x y → Apart (held z) x y
 held_small s = read _ s.is s.most s.least
 
+-- the balance before and after, and the growth, from what the calls answer
+record Steps {w : List ℕ} {n : ℕ} {left : Bool} {was : ℕ} {l r : Tree} (stale : Stale w n left was l r) (z change x x' : ℤ) : Type 0 where
+  after : Apart (held (held z +ℤ held change)) (own stale) (other stale)
+  grown : Small (held x -ℤ held x') (high_after stale) (high_before stale)
+
+steps : {w : List ℕ} {n : ℕ} {left : Bool} {was : ℕ} {l r : Tree} (stale : Stale w n left was l r) {f : Fork} {z change x x' : ℤ}
+    → f ≡ fork_in (node_at w n) → SFits w64 z → ((i j : ℕ) → Stores left i j f.balance → Apart z i j)
+    → SFits w64 change → Apart change (own stale) was → SFits w64 x → SFits w64 x'
+    → ((i j k : ℕ) → Apart (held (held z +ℤ held change)) i k → Apart (pos 0) j k → Apart x (suc (max i j)) k)
+    → ((i j k : ℕ) → Apart (held z) i k → Apart (pos 0) j k → Apart x' (suc (max i j)) k)
+    → Steps stale z change x x'
+steps stale {z = z} {change = change} {x = x} {x' = x'} says ok told fits is okx okx' above above' =
+    let b = before_held stale says z ok told in
+    let a = held_small (after_is stale z change b fits is) in
+    record { after = a; grown = grown_is stale _ _ x x' okx okx' a b above above' }
+
+-- the fork with the balance of the heights now
+uneven_now : {w v : List ℕ} {n : ℕ} {left : Bool} {was : ℕ} {l r : Tree} (stale : Stale w n left was l r) {f g : Fork} {b : ℕ}
+    → f ≡ fork_in (node_at w n) → g ≡ with_balance f b → Stores left (own stale) (other stale) b → v ≡ put w n (fork_cell g) → Uneven v n l r
+uneven_now {left = left} {l = l} {r = r} stale {g = g} says set is e =
+    uneven l r stale (put_right l r stale g e) (set_right left l r stale says set is)
+
 -- ---- the goals
-
-pub fork_at-fork-requires : goal.fork_at-fork-requires
-fork_at-fork-requires c = (_, c.requires.3.says)
-
-pub seen-before-requires : goal.seen-before-requires
-seen-before-requires c = let p = c.requires in (stale_stores c.args.left c.fork_at-fork.result p.3 c.fork_at-fork.ensures).1
-
-pub overflow_add-after : goal.overflow_add-after
-overflow_add-after c =
-    let p = c.requires in
-    let b = before_held p.3 c.fork_at-fork.ensures c.seen-before.result (search rules) c.seen-before.ensures in
-    let a = after_is p.3 c.seen-before.result c.args.change b c.ranges.change p.4 in
-    fits _ a.is a.most a.least
-
-pub stored_from-requires : goal.stored_from-requires
-stored_from-requires c =
-    let p = c.requires in
-    let h = p.3 in
-    let b = before_held p.3 c.fork_at-fork.ensures c.seen-before.result (search rules) c.seen-before.ensures in
-    let a = after_is p.3 c.seen-before.result c.args.change b c.ranges.change p.4 in
-    within 2 _ (held_small a) (omega arith) (omega arith)
-
-pub above-requires : goal.above-requires
-above-requires c =
-    let p = c.requires in
-    let h = p.3 in
-    let b = before_held p.3 c.fork_at-fork.ensures c.seen-before.result (search rules) c.seen-before.ensures in
-    let a = after_is p.3 c.seen-before.result c.args.change b c.ranges.change p.4 in
-    (within 99 _ (held_small a) (omega arith) (omega arith), omega arith)
-
-pub above-requires-2 : goal.above-requires-2
-above-requires-2 c =
-    let p = c.requires in
-    let h = p.3 in
-    let b = before_held p.3 c.fork_at-fork.ensures c.seen-before.result (search rules) c.seen-before.ensures in
-    (within 99 _ b (omega arith) (omega arith), omega arith)
 
 pub overflow_sub-grown : goal.overflow_sub-grown
 overflow_sub-grown c =
     let p = c.requires in
-    let b = before_held p.3 c.fork_at-fork.ensures c.seen-before.result (search rules) c.seen-before.ensures in
-    let a = after_is p.3 c.seen-before.result c.args.change b c.ranges.change p.4 in
-    let g = grown_is p.3 _ _ c.above.result c.above-2.result (search rules) (search rules) (held_small a) b c.above.ensures c.above-2.ensures in
-    fits _ g.is g.most g.least
+    let s =
+    steps p.3 c.fork_at-fork.ensures (search rules) c.seen-before.ensures c.ranges.change p.4 (search rules) (search rules) c.above.ensures
+    c.above-2.ensures in
+    fits _ s.grown.is s.grown.most s.grown.least
 
 pub rebalance-requires : goal.rebalance-requires
 rebalance-requires c =
     let p = c.requires in
-    let b = before_held p.3 c.fork_at-fork.ensures c.seen-before.result (search rules) c.seen-before.ensures in
-    let a = after_is p.3 c.seen-before.result c.args.change b c.ranges.change p.4 in
-    let set =
-    set_right c.args.left p.0 p.1 p.3 c.fork_at-fork.ensures c.with_balance.ensures (c.stored_from.ensures _ _ (held_small a)) in
-    let put = put_right p.0 p.1 p.3 c.with_balance.result c.set_fork.ensures in
-    (p.0, (p.1, uneven p.0 p.1 p.3 put set))
+    let s =
+    steps p.3 c.fork_at-fork.ensures (search rules) c.seen-before.ensures c.ranges.change p.4 (search rules) (search rules) c.above.ensures
+    c.above-2.ensures in
+    (p.0, (p.1, uneven_now p.3 c.fork_at-fork.ensures c.with_balance.ensures (c.stored_from.ensures _ _ s.after) c.set_node.ensures))
 
 pub overflow_add-result : goal.overflow_add-result
 overflow_add-result c =
     let p = c.requires in
-    let b = before_held p.3 c.fork_at-fork.ensures c.seen-before.result (search rules) c.seen-before.ensures in
-    let a = after_is p.3 c.seen-before.result c.args.change b c.ranges.change p.4 in
-    let set =
-    set_right c.args.left p.0 p.1 p.3 c.fork_at-fork.ensures c.with_balance.ensures (c.stored_from.ensures _ _ (held_small a)) in
-    let put = put_right p.0 p.1 p.3 c.with_balance.result c.set_fork.ensures in
-    let g = grown_is p.3 _ _ c.above.result c.above-2.result (search rules) (search rules) (held_small a) b c.above.ensures c.above-2.ensures in
-    let t =
-    whole_is p.3 _ c.rebalance.result (held_small g) (search rules) (c.rebalance.ensures p.0 p.1 (uneven p.0 p.1 p.3 put set)) in
+    let s =
+    steps p.3 c.fork_at-fork.ensures (search rules) c.seen-before.ensures c.ranges.change p.4 (search rules) (search rules) c.above.ensures
+    c.above-2.ensures in
+    let u = uneven_now p.3 c.fork_at-fork.ensures c.with_balance.ensures (c.stored_from.ensures _ _ s.after) c.set_node.ensures in
+    let t = whole_is p.3 _ c.rebalance.result (held_small s.grown) (search rules) (c.rebalance.ensures p.0 p.1 u) in
     fits _ t.is t.most t.least
 
 pub returns : goal.returns
 returns c = λ l r was stale change.
-    let b = before_held stale c.fork_at-fork.ensures c.seen-before.result (search rules) c.seen-before.ensures in
-    let a = after_is stale c.seen-before.result c.args.change b c.ranges.change change in
-    let set =
-    set_right c.args.left l r stale c.fork_at-fork.ensures c.with_balance.ensures (c.stored_from.ensures _ _ (held_small a)) in
-    let put = put_right l r stale c.with_balance.result c.set_fork.ensures in
-    let even = c.rebalance.ensures l r (uneven l r stale put set) in
-    let g = grown_is stale _ _ c.above.result c.above-2.result (search rules) (search rules) (held_small a) b c.above.ensures c.above-2.ensures in
-    leveled l r stale put even (held_small (whole_is stale _ c.rebalance.result (held_small g) (search rules) even))
+    let s =
+    steps stale c.fork_at-fork.ensures (search rules) c.seen-before.ensures c.ranges.change change (search rules) (search rules) c.above.ensures
+    c.above-2.ensures in
+    let even =
+    c.rebalance.ensures l r
+    (uneven_now stale c.fork_at-fork.ensures c.with_balance.ensures (c.stored_from.ensures _ _ s.after) c.set_node.ensures) in
+    leveled l r stale (put_right l r stale c.with_balance.result c.set_node.ensures) even
+    (held_small (whole_is stale _ c.rebalance.result (held_small s.grown) (search rules) even))

@@ -8,9 +8,10 @@ use mir.Syntax.{w64}
 use mir.Val.{SFits}
 use Rattle.model.specs.Tree.{Tree, height}
 use Rattle.pool.specs.declared.node.Fork.{Fork}
-use Rattle.turn.specs.Apart.{Apart}
+use Rattle.turn.specs.Apart.{Apart, Balances, Within}
 use Rattle.turn.specs.Forks.{Heights, Leans, Rising, joined}
 use Rattle.turn.specs.Sites.{Stores}
+use Rattle.turn.specs.declared.turning.Turned.{Turned}
 use Rattle.turn.proofs.Differences.{read, kept, within, held}
 use Rattle.turn.proofs.Joined.{over_stores, joined_height}
 use Rattle.turn.proofs.Rising.{Read, Stored, fits_left, fits_right, made_left, made_right}
@@ -63,9 +64,32 @@ module _ (a c e : Tree) (h : Leans (height e) (height c) (height a)) where
       let before = joined_height left n a (joined left b c e) in
       rw (after, before, joined_height left b a c, joined_height left b c e) (read z p (omega arith) (omega arith))
 
-are_stored : (left : Bool) (b : ℕ) (a c e : Tree) {lowered risen : ℕ} → Stores left (height a) (height c) lowered
-    → Stores left (suc (max (height a) (height c))) (height e) risen → Stored left lowered risen b a c e
-are_stored left b a c e p q = record { lowered_is = p; risen_is = rw (joined_height left b a c) q }
+-- ---- what the turn makes of them
+
+module _ {left : Bool} {top child : Fork} (t : Rising left top child) {z : Turned} where
+  told : (x y : ℤ) → SFits w64 x → SFits w64 y → ((i j : ℕ) → Stores left i j child.balance → Apart x i j)
+      → ((i j : ℕ) → Stores left i j top.balance → Apart y i j) → ((h : Heights (held x) (held y)) → Balances z h.a h.c h.e)
+      → Balances z (height t.a) (height t.c) (height t.e)
+  told x y f g child_seen top_seen all = all (heights t x y f g child_seen top_seen)
+
+  module _ (s : Balances z (height t.a) (height t.c) (height t.e)) where
+    lowered_within : Within 2 (held z.lowered)
+    lowered_within = let h = t.leans in within 2 _ (lowered_seen t.a t.c t.e h _ s.lowered) (omega arith) (omega arith)
+
+    risen_within : Within 2 (held z.risen)
+    risen_within = let h = t.leans in within 2 _ (risen_seen t.a t.c t.e h _ s.risen) (omega arith) (omega arith)
+
+    are_stored : {lowered risen : ℕ} → ((x y : ℕ) → Apart (held z.lowered) x y → Stores left x y lowered)
+        → ((x y : ℕ) → Apart (held z.risen) x y → Stores left x y risen) → Stored left lowered risen t.b t.a t.c t.e
+    are_stored p q =
+        record {
+          lowered_is = p _ _ (lowered_seen t.a t.c t.e t.leans z.lowered s.lowered);
+          risen_is = rw (joined_height left t.b t.a t.c) (q _ _ (risen_seen t.a t.c t.e t.leans z.risen s.risen));
+        }
+
+    changed : (n : ℕ)
+        → Apart (held z.change) (height (joined left n (joined left t.b t.a t.c) t.e)) (height (joined left n t.a (joined left t.b t.c t.e)))
+    changed n = change_is t.a t.c t.e t.leans left t.b n z.change s.change
 
 -- ---- the goals
 
@@ -81,18 +105,14 @@ balances-turned-requires c = heights c.requires c.seen.result c.seen-2.result (s
 pub stored_from-lowered-requires : goal.stored_from-lowered-requires
 stored_from-lowered-requires c =
     let t = c.requires in
-    let h = t.leans in
-    let s =
-    c.balances-turned.ensures (heights t c.seen.result c.seen-2.result (search rules) (search rules) c.seen.ensures c.seen-2.ensures) in
-    within 2 _ (lowered_seen t.a t.c t.e h _ s.lowered) (omega arith) (omega arith)
+    lowered_within t
+    (told t c.seen.result c.seen-2.result (search rules) (search rules) c.seen.ensures c.seen-2.ensures c.balances-turned.ensures)
 
 pub stored_from-risen-requires : goal.stored_from-risen-requires
 stored_from-risen-requires c =
     let t = c.requires in
-    let h = t.leans in
-    let s =
-    c.balances-turned.ensures (heights t c.seen.result c.seen-2.result (search rules) (search rules) c.seen.ensures c.seen-2.ensures) in
-    within 2 _ (risen_seen t.a t.c t.e h _ s.risen) (omega arith) (omega arith)
+    risen_within t
+    (told t c.seen.result c.seen-2.result (search rules) (search rules) c.seen.ensures c.seen-2.ensures c.balances-turned.ensures)
 
 -- to the left
 
@@ -106,16 +126,10 @@ overflow_add-result-then-left c =
 
 pub returns-then-left : goal.returns-then-left
 returns-then-left c = λ t.
-    let h = t.leans in
-    let s =
-    c.balances-turned.ensures (heights t c.seen.result c.seen-2.result (search rules) (search rules) c.seen.ensures c.seen-2.ensures) in
-    let z = c.balances-turned.result in
-    let stored =
-    are_stored c.args.left t.b t.a t.c t.e
-    (c.stored_from-lowered.ensures (height t.a) (height t.c) (lowered_seen t.a t.c t.e h z.lowered s.lowered))
-    (c.stored_from-risen.ensures (suc (max (height t.a) (height t.c))) (height t.e) (risen_seen t.a t.c t.e h z.risen s.risen)) in
+    let s = told t c.seen.result c.seen-2.result (search rules) (search rules) c.seen.ensures c.seen-2.ensures c.balances-turned.ensures in
+    let stored = are_stored t s c.stored_from-lowered.ensures c.stored_from-risen.ensures in
     let forks = made_left t.b t.a t.c t.e c.args.left c.if-left.true (are_read t) stored in
-    record { lowered_is = forks.0; risen_is = forks.1; change = λ n. change_is t.a t.c t.e h c.args.left t.b n z.change s.change }
+    record { lowered_is = forks.0; risen_is = forks.1; change = changed t s }
 
 -- to the right
 
@@ -127,13 +141,7 @@ overflow_sub-result-2 c = let t = c.requires in (fits_right t.b t.a t.c t.e c.ar
 
 pub returns : goal.returns
 returns c = λ t.
-    let h = t.leans in
-    let s =
-    c.balances-turned.ensures (heights t c.seen.result c.seen-2.result (search rules) (search rules) c.seen.ensures c.seen-2.ensures) in
-    let z = c.balances-turned.result in
-    let stored =
-    are_stored c.args.left t.b t.a t.c t.e
-    (c.stored_from-lowered.ensures (height t.a) (height t.c) (lowered_seen t.a t.c t.e h z.lowered s.lowered))
-    (c.stored_from-risen.ensures (suc (max (height t.a) (height t.c))) (height t.e) (risen_seen t.a t.c t.e h z.risen s.risen)) in
+    let s = told t c.seen.result c.seen-2.result (search rules) (search rules) c.seen.ensures c.seen-2.ensures c.balances-turned.ensures in
+    let stored = are_stored t s c.stored_from-lowered.ensures c.stored_from-risen.ensures in
     let forks = made_right t.b t.a t.c t.e c.args.left c.if-left.false (are_read t) stored in
-    record { lowered_is = forks.0; risen_is = forks.1; change = λ n. change_is t.a t.c t.e h c.args.left t.b n z.change s.change }
+    record { lowered_is = forks.0; risen_is = forks.1; change = changed t s }

@@ -37,11 +37,8 @@ module _ {w : List ℕ} {n : ℕ} (l r : Tree) (u : Uneven w n l r) {f : Fork} (
   right_at : Child w f.right r
   right_at = subst (λ (i : ℕ). Child w i r) (sym (fields _ l r read).right_is) (near_child false r l u)
 
-pub fork_at-fork-requires : goal.fork_at-fork-requires
-fork_at-fork-requires c = (_, c.requires.1.1.stands.holds.0)
-
-pub seen-balance-requires : goal.seen-balance-requires
-seen-balance-requires c = let p = c.requires in (stores p.0 p.1.0 p.1.1 c.fork_at-fork.ensures).1
+pub seen-requires : goal.seen-requires
+seen-requires c = let p = c.requires in (stores p.0 p.1.0 p.1.1 c.fork_at-fork.ensures).1
 
 -- ---- the left child is the higher one
 
@@ -52,52 +49,52 @@ pub turn-requires : goal.turn-requires
 turn-requires c =
     let p = c.requires in
     let says = c.fork_at-fork.ensures in
-    let z = c.seen-balance.result in
+    let z = c.seen.result in
     let high =
-    tested z (pos 2) (search rules) (record { sfits = omega arith }) c.if-balance-eq2.true
-    (seen p.0 p.1.0 p.1.1 says c.seen-balance.ensures) in
+    tested z (pos 2) (search rules) (record { sfits = omega arith }) (search rules)
+    (seen p.0 p.1.0 p.1.1 says c.seen.ensures) in
     turns_over true p.0 p.1.0 p.1.1 high.is (c.lean.ensures p.0 (left_at p.0 p.1.0 p.1.1 says))
 
-pub returns-then-balance-eq2 : goal.returns-then-balance-eq2
-returns-then-balance-eq2 c = λ l r u.
+pub returns-in-2 : goal.returns-in-2
+returns-in-2 c = λ l r u.
     let says = c.fork_at-fork.ensures in
-    let z = c.seen-balance.result in
+    let z = c.seen.result in
     let high =
-    tested z (pos 2) (search rules) (record { sfits = omega arith }) c.if-balance-eq2.true (seen l r u says c.seen-balance.ensures) in
+    tested z (pos 2) (search rules) (record { sfits = omega arith }) (search rules) (seen l r u says c.seen.ensures) in
     evened_read l r u c.turn.result (search rules)
     (moved_over true l r u high.is (c.lean.ensures l (left_at l r u says)) c.turn.ensures)
 
 -- ---- the right child is the higher one
 
-pub lean-requires-then-balance : goal.lean-requires-then-balance
-lean-requires-then-balance c = let p = c.requires in (p.1.0, right_at p.0 p.1.0 p.1.1 c.fork_at-fork.ensures)
+pub lean-requires-in-minus2 : goal.lean-requires-in-minus2
+lean-requires-in-minus2 c = let p = c.requires in (p.1.0, right_at p.0 p.1.0 p.1.1 c.fork_at-fork.ensures)
 
-pub turn-requires-then-balance : goal.turn-requires-then-balance
-turn-requires-then-balance c =
+pub turn-requires-in-minus2 : goal.turn-requires-in-minus2
+turn-requires-in-minus2 c =
     let p = c.requires in
     let says = c.fork_at-fork.ensures in
-    let z = c.seen-balance.result in
+    let z = c.seen.result in
     let high =
-    tested z (negsuc 1) (search rules) (record { sfits = omega arith }) c.if-balance.true
-    (seen p.0 p.1.0 p.1.1 says c.seen-balance.ensures) in
-    turns_over false p.1.0 p.0 p.1.1 high.is (c.lean-then-balance.ensures p.1.0 (right_at p.0 p.1.0 p.1.1 says))
+    tested z (negsuc 1) (search rules) (record { sfits = omega arith }) (search rules)
+    (seen p.0 p.1.0 p.1.1 says c.seen.ensures) in
+    turns_over false p.1.0 p.0 p.1.1 high.is (c.lean-in-minus2.ensures p.1.0 (right_at p.0 p.1.0 p.1.1 says))
 
-pub returns-then-balance : goal.returns-then-balance
-returns-then-balance c = λ l r u.
+pub returns-in-minus2 : goal.returns-in-minus2
+returns-in-minus2 c = λ l r u.
     let says = c.fork_at-fork.ensures in
-    let z = c.seen-balance.result in
+    let z = c.seen.result in
     let high =
-    tested z (negsuc 1) (search rules) (record { sfits = omega arith }) c.if-balance.true (seen l r u says c.seen-balance.ensures) in
-    evened_read l r u c.turn-then-balance.result (search rules)
-    (moved_over false r l u high.is (c.lean-then-balance.ensures r (right_at l r u says)) c.turn-then-balance.ensures)
+    tested z (negsuc 1) (search rules) (record { sfits = omega arith }) (search rules) (seen l r u says c.seen.ensures) in
+    evened_read l r u c.turn-in-minus2.result (search rules)
+    (moved_over false r l u high.is (c.lean-in-minus2.ensures r (right_at l r u says)) c.turn-in-minus2.ensures)
 
 -- ---- neither is
 
-pub returns : goal.returns
-returns c = λ l r u.
-    let z = c.seen-balance.result in
-    let s = seen l r u c.fork_at-fork.ensures c.seen-balance.ensures in
+pub returns-in_default : goal.returns-in_default
+returns-in_default c = λ l r u.
+    let z = c.seen.result in
+    let s = seen l r u c.fork_at-fork.ensures c.seen.ensures in
     evened l r u
     (stayed l r u
-    (λ h. refuted z (pos 2) c.if-balance-eq2.false s (record { is = h }))
-    (λ h. refuted z (negsuc 1) c.if-balance.false s (record { is = h })))
+    (λ h. refuted z (pos 2) (search rules) s (record { is = h }))
+    (λ h. refuted z (negsuc 1) (search rules) s (record { is = h })))

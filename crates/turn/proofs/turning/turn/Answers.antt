@@ -45,9 +45,6 @@ module _ {left : Bool} {w : List ℕ} {n : ℕ} (t : Turns left w n) where
             few = omega (arith, t.stands.few, joined_size left n t.a (joined left t.b t.c t.e), joined_size left t.b t.c t.e);
           }
 
-pub fork_at-top-requires : goal.fork_at-top-requires
-fork_at-top-requires c = (_, c.requires.stands.holds.0)
-
 pub fork_at-child-requires : goal.fork_at-child-requires
 fork_at-child-requires c = (_, child_read c.requires c.fork_at-top.ensures c.far_child-b.ensures)
 
@@ -67,7 +64,7 @@ returns c = λ t.
     let lowered = joined_height left t.b t.a t.c in
     record {
       edited =
-          turned_words left _ forks.lowered forks.risen t c.set_fork.ensures c.set_fork-2.ensures
+          turned_words left _ forks.lowered forks.risen t c.set_node.ensures c.set_node-2.ensures
           (child_at t c.fork_at-top.ensures c.far_child-b.ensures) risen.lowered_is risen.risen_is;
       change = rw (turned_is left n t.b t.a t.c t.e) (read forks.change (risen.change n) (omega arith) (omega arith));
     }

@@ -1,8 +1,8 @@
 -- Two words for each 128 marks begun. Assumes nothing.
-use mathlib.Core.Path.{refl}
+use native.Mathlib.Omega.{arith}
 use Rattle.model.specs.Word.{words_for}
 use Rattle.values.proofs.writing.words_for.Goals as goal
 
 pub returns : goal.returns
 unfolding words_for
-returns c = refl
+returns c = omega arith

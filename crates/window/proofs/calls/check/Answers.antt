@@ -1,25 +1,23 @@
 -- The words are no pool's, or they are judged. Assumes nothing.
-use native.Mathlib.Omega.{arith}
 use mathlib.Core.Path.{ap, ◌∙◌}
+use Rattle.std.proofs.lemmas.Result.{err_from_is_err_and}
 use Rattle.window.specs.declared.trailer.Trailer.{Trailer}
 use Rattle.window.proofs.OneState.{stands_length}
 use Rattle.window.proofs.Verdicts.{no_checked, damaged_checked, stands_checked}
 use Rattle.window.proofs.calls.check.Goals as goal
 
-pub returns-then-n-eq0 : goal.returns-then-n-eq0
-returns-then-n-eq0 c = no_checked _ (c.nodes_of-n.ensures.no c.if-n-eq0.true)
+pub returns-in_err-n : goal.returns-in_err-n
+returns-in_err-n c =
+    let e = err_from_is_err_and c.from_residual.result c.from_residual.ensures.1 in
+    rw (e.1, e.2, c.in_err-n.ensures.0) (no_checked _ c.in_err-n.ensures.1)
 
-pub judged-requires : goal.judged-requires
-judged-requires c = c.nodes_of-n.ensures.yes (omega (arith, c.if-n-eq0.false))
+pub returns-in_err-trailer : goal.returns-in_err-trailer
+returns-in_err-trailer c =
+    let e = err_from_is_err_and c.from_residual-in_err-trailer.result c.from_residual-in_err-trailer.ensures.1 in
+    rw (e.1, e.2, c.in_err-trailer.ensures.0) (damaged_checked _ _ c.in_ok-n.ensures c.in_err-trailer.ensures.1)
 
-pub returns-in-Stands : goal.returns-in-Stands
-returns-in-Stands c =
-    let n = c.nodes_of-n.result in
-    let j = rw c.in-Stands.is at c.judged.ensures in
-    stands_checked _ n j.0 j.1 _ (ap (λ (t : Trailer). t.length) j.2 ∙ stands_length _ n j.1.counted j.0 j.1)
-
-pub returns-in-Damaged : goal.returns-in-Damaged
-returns-in-Damaged c =
-    let n = c.nodes_of-n in
-    damaged_checked _ n.result (n.ensures.yes (omega (arith, c.if-n-eq0.false)))
-    (rw c.in-Damaged.is at c.judged.ensures)
+pub returns : goal.returns
+returns c =
+    let n = c.in_ok-n.n in
+    let j = c.in_ok-trailer.ensures in
+    stands_checked _ n j.0 j.1 _ (ap (λ (t : Trailer). t.held.tree.length) j.2 ∙ stands_length _ n j.1.counted j.0 j.1)

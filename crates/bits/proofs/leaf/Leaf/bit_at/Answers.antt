@@ -7,12 +7,12 @@ use Rattle.bits.proofs.leaf.Leaf.bit_at.Goals as goal
 
 pub returns-then-at-lt-WORD_BITS : goal.returns-then-at-lt-WORD_BITS
 unfolding bits_of odd
-returns-then-at-lt-WORD_BITS c = let s = c in bit_low s.args.self s.args.at (search rules)
+returns-then-at-lt-WORD_BITS c = bit_low c.args.self c.args.at (search rules)
 
 pub returns-then-at-lt-BLOCK_BITS : goal.returns-then-at-lt-BLOCK_BITS
 unfolding bits_of odd
-returns-then-at-lt-BLOCK_BITS c = let s = c in bit_high s.args.self s.args.at (search rules) (search rules)
+returns-then-at-lt-BLOCK_BITS c = bit_high c.args.self c.args.at (search rules) (search rules)
 
 pub returns : goal.returns
 unfolding bits_of
-returns c = let s = c in bit_none s.args.self s.args.at (search rules)
+returns c = bit_none c.args.self c.args.at (search rules)

@@ -10,13 +10,10 @@ use Rattle.bits.proofs.leaf.Leaf.insert.Goals as goal
 pub returns-then-at-lt-BLOCK_BITS : goal.returns-then-at-lt-BLOCK_BITS
 unfolding bits_of odd
 returns-then-at-lt-BLOCK_BITS c =
-    let above = c in
-    let put = above in
-    let word = put in
-    let a = word.args in
+    let a = c.args in
     edit_chosen a.self (λ first w k. packed (insert k a.bit (bits 64 w))) (search rules) (λ t. search rules) (λ t. search rules)
-    word.either-word.ensures put.word_insert-put.ensures c.either.ensures c.either-then-at-lt-BLOCK_BITS.ensures
-    (λ h. insert_low a.self a.at a.bit h refl above.word_insert-above.ensures)
+    c.either-word.ensures c.word_insert-put.ensures c.either.ensures c.either-then-at-lt-BLOCK_BITS.ensures
+    (λ h. insert_low a.self a.at a.bit h refl c.word_insert-above.ensures)
     (λ h. insert_high a.self a.at a.bit (search rules) h refl)
 
 pub returns : goal.returns

@@ -12,14 +12,11 @@ use Rattle.bits.proofs.leaf.Leaf.remove.Goals as goal
 pub returns-then-at-lt-BLOCK_BITS : goal.returns-then-at-lt-BLOCK_BITS
 unfolding bits_of odd
 returns-then-at-lt-BLOCK_BITS c =
-    let above = c in
-    let kept = above in
-    let word = kept in
-    let a = word.args in
+    let a = c.args in
     edit_chosen a.self (λ first w k. packed (remove k (bits 64 w) ++ (first && odd a.self.high) ∷ []))
     (search rules) (λ t. search rules) (λ t. search rules)
-    word.either-word.ensures kept.word_remove-kept.ensures c.either.ensures c.either-then-at-lt-BLOCK_BITS.ensures
-    (λ h. remove_low a.self a.at h refl above.word_remove-above.ensures)
+    c.either-word.ensures c.word_remove-kept.ensures c.either.ensures c.either-then-at-lt-BLOCK_BITS.ensures
+    (λ h. remove_low a.self a.at h refl c.word_remove-above.ensures)
     (λ h. remove_high a.self a.at (search rules) h refl)
 
 pub returns : goal.returns

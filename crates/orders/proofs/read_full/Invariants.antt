@@ -1,9 +1,0 @@
--- The measure is the bytes that are left, since a read that gives none ends the loop.
-use Rattle.std.proofs.Common.{length, ◌-◌, ◌≤◌}
-use Rattle.orders.proofs.read_full.Given as goal
-
-abbrev pub invariant-loop-done : goal.invariant-loop-done
-invariant-loop-done g l = l.done ≤ length l.bytes
-
-abbrev pub decreases-loop-done : goal.decreases-loop-done
-decreases-loop-done g l = length l.initial.bytes - l.done
