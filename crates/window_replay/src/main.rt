@@ -17,7 +17,7 @@
 // stdin and stdout beside src/ are what `window_vectors sample stdin stdout` of the folder oracle makes.
 #![tactic(auto)]
 
-ghost use Rattle.std.specs.Prelude.{◌≤◌, length};
+ghost use Rattle.std.specs.Prelude.{◌+◌, ◌≤◌, length};
 
 mod request;
 mod words;
@@ -26,12 +26,20 @@ use order::{ANSWER_WORDS, ORDER_WORDS, TwoWords};
 use request::{AboveLimit, MOST_ORDERS, MOST_POOL, MOST_WORDS, Request};
 use std::io;
 use std::io::{ErrorKind, Read, Write};
-use words::{read_words, write_words};
+use words::{Bytes, put_words, read_words};
 
 // The words of the most orders, and of their answers.
 const ORDERS: usize = ORDER_WORDS * MOST_ORDERS;
 
 const REPLIES: usize = ANSWER_WORDS * MOST_ORDERS;
+
+// The words of a request's lists, and of an answer, at most.
+const LISTS: usize = MOST_WORDS + ORDERS;
+
+const TOLD: usize = CALLS + REPLIES + MOST_WORDS + MOST_POOL;
+
+// The words of what the four calls answer.
+const CALLS: usize = 4 * ANSWER_WORDS;
 
 // Why no more requests are answered.
 #[derive(Drop)]
@@ -82,27 +90,53 @@ fn serve(
     })
 }
 
+// Writes an answer, by way of the bytes that are lent: all of it at once, as far as the output takes it. Its parts come
+// one by one, as they stand in arrays of their own. The clause leaves room for the words of the calls.
+fn write_answer<W: Write>(
+    writer: &mut W,
+    told: &mut [Bytes; TOLD],
+    calls: [[u64; ANSWER_WORDS]; 4],
+    replies: &[u64],
+    out: &[u64],
+    pool: &[u64],
+) -> io::Result<()>
+    requires { length replies.now + length out.now + length pool.now ≤ 14862 }
+{
+    let (head, rest) = told.split_at_mut(CALLS);
+    put_words(head, calls.as_flattened());
+    let (first, rest) = rest.split_at_mut(replies.len());
+    put_words(first, replies);
+    let (second, rest) = rest.split_at_mut(out.len());
+    put_words(second, out);
+    put_words(rest, pool);
+    let end = CALLS + replies.len() + out.len() + pool.len();
+    writer.write_all(told[..end].as_flattened())
+}
+
 // Reads a request, serves it and writes the answer.
 fn answer_next<R: Read, W: Write>(reader: &mut R, writer: &mut W) -> Result<(), Stop> {
-    let mut head = [0; 9];
-    read_words(reader, &mut head)?;
-    let request = Request::try_from(head)?;
-    let mut words = [0; MOST_WORDS];
-    let words = &mut words[..request.count];
-    read_words(reader, words)?;
-    let mut orders = [0; ORDERS];
-    let orders = &mut orders[..ORDER_WORDS * request.orders];
-    read_words(reader, orders)?;
+    let mut head = [[0; 8]; 9];
+    reader.read_exact(head.as_flattened_mut())?;
+    let request = Request::try_from(head.map(u64::from_le_bytes))?;
+    let mut bytes: [Bytes; TOLD] = [[0; 8]; TOLD];
+    let mut lists = [0; LISTS];
+    let lists = &mut lists[..request.count + ORDER_WORDS * request.orders];
+    read_words(reader, &mut bytes, lists)?;
+    let (words, orders) = lists.split_at(request.count);
     let mut replies = [u64::MAX; REPLIES];
     let replies = &mut replies[..ANSWER_WORDS * request.orders];
     let mut out = [request.fill; MOST_WORDS];
     let out = &mut out[..request.room];
     let mut pool = [request.fill; MOST_POOL];
     let calls = serve(&request, &mut pool, words, orders, replies, out);
-    write_words(writer, calls.as_flattened())?;
-    write_words(writer, replies)?;
-    write_words(writer, out)?;
-    write_words(writer, &pool[..request.shown])?;
+    write_answer(
+        writer,
+        &mut bytes,
+        calls,
+        replies,
+        out,
+        &pool[..request.shown],
+    )?;
     Ok(())
 }
 
