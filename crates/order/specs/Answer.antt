@@ -1,5 +1,5 @@
--- The number and the value of each answer. A refusal has the value 0.
-use Rattle.std.specs.Prelude.{ℕ, ◌≡◌, Result, Ok, Err}
+-- The number and the value of each answer, and the text of each refusal. A refusal has the value 0.
+use Rattle.std.specs.Prelude.{ℕ, ◌≡◌, List, Result, Ok, Err, codes}
 use Rattle.order.specs.declared.answer.Refusal.{Refusal}
 use Rattle.order.specs.declared.answer.Refusal.TheVariants.{OutOfRange, NoZeroth, TooFew, Full, Malformed, WrongSize, NotSound, ShortOutput, PartOrder, TooLong, LeafLacks}
 use Rattle.order.specs.declared.answer.TwoWords.{TwoWords}
@@ -28,3 +28,17 @@ value (Err r) = 0
 -- two words are an answer's number and its value
 abbrev pub InWords : Answer → TwoWords → Type 0
 InWords a words = (words.code ≡ code a) × (words.value ≡ value a)
+
+-- what is printed of a refusal
+abbrev pub printed_as : Refusal → List ℕ
+printed_as OutOfRange = codes "index or end out of range"
+printed_as NoZeroth = codes "there is no mark before the first"
+printed_as TooFew = codes "too few such marks"
+printed_as Full = codes "no room"
+printed_as Malformed = codes "no such order"
+printed_as WrongSize = codes "not as many words as a pool has"
+printed_as NotSound = codes "no sound pool"
+printed_as ShortOutput = codes "the output is too short"
+printed_as PartOrder = codes "a part of an order"
+printed_as TooLong = codes "more marks than the words have"
+printed_as LeafLacks = codes "the leaf lacks the mark"

@@ -1,6 +1,7 @@
-// What a call or an order answers. The enum below gives each refusal its number; specs/Answer.antt defines the number
-// and the value case by case.
-ghost use Rattle.order.specs.Answer.{InWords};
+// What a call or an order answers. The enum below gives each refusal its number; specs/Answer.antt defines the number,
+// the value and the text case by case.
+ghost use Rattle.std.specs.Prelude.{Some};
+ghost use Rattle.order.specs.Answer.{InWords, printed_as};
 
 use std::error::Error;
 use std::fmt;
@@ -49,6 +50,8 @@ impl From<Answer> for TwoWords {
 
 // For a host on the ground that prints why.
 impl fmt::Display for Refusal {
+    ghost output = { λ r. Some (printed_as r) };
+
     fn fmt<W: fmt::Write>(&self, f: &mut fmt::Formatter<W>) -> fmt::Result {
         f.write_str(match self {
             Refusal::OutOfRange => "index or end out of range",

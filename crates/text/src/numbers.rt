@@ -84,9 +84,9 @@ fn put_digits(out: &mut [u8], at: usize, number: u64, base: u64, count: usize)
     }
 }
 
-// Puts a number's decimal digits at a place, and says where they end: by hand, since a proof knows nothing of what
-// Display writes. The row and the place stay two arguments: `&mut out[end..]` and a sum at each call would be no
-// plainer.
+// Puts a number's decimal digits at a place, and says where they end: by hand, as they go into a row that was lent. A
+// formatter needs a writer; there is no heap for one, and what the library's writer over a row holds is not known. The
+// row and the place stay two arguments: `&mut out[end..]` and a sum at each call would be no plainer.
 pub fn put_decimal(out: &mut [u8], at: usize, number: u64) -> usize
     requires { at + 20 ≤ length out.old }
     ensures end { result ≡ at + length (decimal_text number) }
