@@ -33,6 +33,7 @@ fn after_quiet(watch: Watch, quiet: u64) -> Watch
 }
 
 // After so many quiet frames more and a strike.
+#[tactic(auto, unfolding(crate::specs::Watching::step, crate::specs::Watching::ended))]
 fn after_strike(watch: Watch, quiet: u64) -> Watch
     requires { passed watch + quiet < 2 ^ 64 }
     ensures { result ≡ step (later quiet watch) true }
