@@ -164,8 +164,7 @@ fn cell_at(nodes: &[u64], n: u64) -> Cell
     }
 }
 
-// Writes node n's six words, where there is such a node. They are written one by one: of six that were
-// lent for writing nothing is known afterwards.
+// Writes node n's six words, where there is such a node. They are written one by one, as they are read.
 fn put_cell(nodes: &mut [u64], n: u64, cell: Cell)
     ensures { nodes.new ≡ put nodes.old n cell }
 {
